@@ -1,0 +1,62 @@
+-- Lists of count-up calls on levels without a tie: the levels that they leave are those of a run of steps. Assumes nothing.
+use mathlib.Core.Path.{_≡_, refl, ap, _∙_}
+use mathlib.Core.Bool.{true, false}
+use mathlib.Core.List.{List, [], _∷_, _++_}
+use Prim.Native.Nat.{ℕ, _+_, _≤_, _<_}
+use native.Mathlib.Omega.{arith}
+use borrow.Author.Tests.{le-leb, lt-leb}
+use lib.ListN.{length}
+use Rattle.theory.specs.Reasons.{done, ceiling, sized, maxLevel}
+use Rattle.theory.specs.Levels.{highest, ReadsAs, tied}
+use Rattle.theory.specs.CountUp.{callNumber, callPushes, callLevels}
+use Rattle.theory.specs.Run.{steps, stepLevels, afterCalls, callNumbers, stepsDone}
+use Rattle.theory.specs.Demand3.{Done, Refused}
+use Rattle.theory.proofs.Cases.{by-le}
+use Rattle.theory.proofs.Sorting.{reads-untied}
+use Rattle.theory.proofs.LevelRun.{run-length, run-reads, stepLevels-add, countUp-run}
+
+pub sized-true : (n : ℕ) → 2 ≤ n → n ≤ 20 → sized n ≡ true
+sized-true n low high = rw (le-leb 2 n low, le-leb n 20 high)
+
+-- ---- one call, on levels that are neither too few or too many nor tied
+
+module _ (k : ℕ) (L : List ℕ) (fits : sized (length L) ≡ true) (untied : tied L ≡ false) where
+  pub call-done : highest L + k ≤ maxLevel → Done k L
+  unfolding callNumber callPushes callLevels
+  call-done h =
+      let number : callNumber k L ≡ done = rw (fits, untied, le-leb (highest L + k) maxLevel h) in
+      record { number = number; pushes = rw number; levels = rw number }
+
+  pub call-refused : maxLevel < highest L + k → Refused k L
+  unfolding callNumber callPushes callLevels
+  call-refused h =
+      let number : callNumber k L ≡ ceiling = rw (fits, untied, lt-leb (highest L + k) maxLevel h) in
+      record { number = number; pushes = rw number; levels = rw number }
+
+-- ---- a list of calls
+
+pub calls-run : (n : ℕ) → 2 ≤ n → n ≤ 20 → (ks L xs : List ℕ) → length L ≡ n → ReadsAs L xs
+    → afterCalls ks L ≡ stepLevels n (stepsDone ks L) xs L
+unfolding afterCalls stepsDone stepLevels
+calls-run n low high [] L xs size r = refl
+calls-run n low high (k ∷ ks) L xs size r =
+    let fits : sized (length L) ≡ true = sized-true (length L) (omega arith) (omega arith) in
+    by-le (highest L + k) maxLevel
+    (λ h.
+    let d : Done k L = call-done k L fits (reads-untied r) h in
+    let M : List ℕ = stepLevels n k xs L in
+    let here : callLevels k L ≡ M = d .levels ∙ countUp-run n low k L xs size r in
+    rw (here, d .pushes)
+    (calls-run n low high ks M (steps n k xs) (run-length n low L xs size r k) (run-reads n low L xs size r k)
+    ∙ stepLevels-add n k (stepsDone ks M) xs L))
+    (λ h.
+    let d : Refused k L = call-refused k L fits (reads-untied r) h in
+    let e : stepsDone ks L ≡ 0 + stepsDone ks L = omega arith in
+    rw (d .levels, d .pushes) (calls-run n low high ks L xs size r ∙ ap (λ (i : ℕ). stepLevels n i xs L) e))
+
+-- the number of each call is that of the call on the levels which the calls before it left
+pub call-number : (L ks : List ℕ) (k : ℕ) (later : List ℕ)
+    → callNumbers (ks ++ k ∷ later) L ≡ callNumbers ks L ++ callNumber k (afterCalls ks L) ∷ callNumbers later (afterCalls (ks ++ k ∷ []) L)
+unfolding callNumbers afterCalls
+call-number L [] k later = refl
+call-number L (j ∷ ks) k later = ap (λ (l : List ℕ). callNumber j L ∷ l) (call-number (callLevels j L) ks k later)

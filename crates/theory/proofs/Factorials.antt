@@ -1,0 +1,44 @@
+-- Factorials are positive, those up to 20! fit 64 bits, and falling factorials are their quotients. Assumes nothing.
+use mathlib.Core.Path.{_≡_, refl, ap, sym, _∙_}
+use Prim.Native.Nat.{ℕ, zero, suc, _-_, _*_, _/_, _^_, _≤_, _<_}
+use native.Mathlib.Nat.{le-of-suc-le-suc, mul-assoc, mul-le-mul-left, mul-le-mul-right, div-eq-of-eq-mul-left}
+use native.Mathlib.Omega.{arith}
+use Rattle.theory.specs.Factorial.{factorial, falling}
+
+pub factorial-pos : (n : ℕ) → 1 ≤ factorial n
+factorial-pos zero = omega arith
+factorial-pos (suc m) = omega (arith, mul-le-mul-left (suc m) (factorial-pos m))
+
+pub factorial-pred : (n : ℕ) → 1 ≤ n → factorial n ≡ n * factorial (n - 1)
+factorial-pred zero h = absurd (omega arith)
+factorial-pred (suc m) h =
+    let e : m ≡ suc m - 1 = omega arith in
+    ap (λ (k : ℕ). suc m * factorial k) e
+
+factorial-grows : (m n : ℕ) → m ≤ n → factorial m ≤ factorial n
+factorial-grows zero n h = factorial-pos n
+factorial-grows (suc m) zero h = absurd (omega arith)
+factorial-grows (suc m) (suc n) h =
+    omega (arith, mul-le-mul-left (suc m) (factorial-grows m n (le-of-suc-le-suc h)), mul-le-mul-right (factorial n) h)
+
+-- "20! = 2,432,902,008,176,640,000 fits 64 bits."
+pub factorial-20 : factorial 20 ≡ 2432902008176640000
+factorial-20 = refl
+
+pub factorial-fits : (n : ℕ) → n ≤ 20 → factorial n < 2 ^ 64
+factorial-fits n h = omega (arith, factorial-grows n 20 h, factorial-20)
+
+falling-factorial : (n p : ℕ) → p ≤ n → falling n p * factorial (n - p) ≡ factorial n
+falling-factorial n zero l = let q : n - 0 ≡ n = omega arith in rw q (omega arith)
+falling-factorial zero (suc p) l = absurd (omega arith)
+falling-factorial (suc n) (suc p) l =
+    let q : suc n - suc p ≡ n - p = omega arith in
+    let r : suc n - 1 ≡ n = omega arith in
+    rw (q, r) (
+    mul-assoc (suc n) (falling n p) (factorial (n - p))
+    ∙ ap (λ (x : ℕ). suc n * x) (falling-factorial n p (le-of-suc-le-suc l))
+    )
+
+-- n (n - 1) .. (n - p + 1) is n!/(n - p)!
+pub falling-quotient : (n p : ℕ) → p ≤ n → falling n p ≡ factorial n / factorial (n - p)
+falling-quotient n p l = sym (div-eq-of-eq-mul-left (factorial-pos (n - p)) (sym (falling-factorial n p l)))

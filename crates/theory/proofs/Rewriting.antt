@@ -1,0 +1,127 @@
+-- Rewriting to a target permutation: the pushes give it, each at a place 2 to n, and no shorter row of pushes does. Assumes nothing.
+use mathlib.Core.Path.{_≡_, refl, ap, sym, _∙_}
+use mathlib.Core.Bool.{true, false, false≢true}
+use mathlib.Core.List.{List, [], _∷_, _++_, reverse, Sublistᴰ, Sublistᴰ·nil-sublist}
+use mathlib.Core.List.Sublistᴰ.{Sublistᴰ·cons-cons}
+use Prim.Native.Nat.{ℕ, zero, suc, _-_, _≤_}
+use native.Mathlib.Omega.{arith}
+use lib.Dec.{eqb}
+use lib.ListN.{length, getD, take, drop, take-append-drop, length-reverse, drop-of-length-le}
+use lib.Seq.{take-suc, drop-cons, drop-length, drop-append-seam, length-take-le}
+use Rattle.theory.specs.Lists.{member, without}
+use Rattle.theory.specs.Permutation.{IsPermutation, top}
+use Rattle.theory.specs.Push.{pushes, Places, pushCells, cellPlaces}
+use Rattle.theory.specs.Rewrite.{inSequence, rewriteNumber, rewritePushes}
+use Rattle.theory.specs.Claims.{Rewriting}
+use Rattle.theory.proofs.Cases.{by-test, by-name}
+use Rattle.theory.proofs.Members.{Distinct, Same, Among, permutation-distinct, distinct-head, distinct-left, distinct-drop, distinct-apart, member-first, member-append, member-take, member-getD}
+use Rattle.theory.proofs.Names.{permutation-member}
+use Rattle.theory.proofs.Least.{least-holds, least-bound, least-min}
+use Rattle.theory.proofs.Sublists.{sequence-sublist, skip-sublist, sublist-sequence, without-sublist, sublist-one, without-others}
+use Rattle.theory.proofs.Rows.{upward-split, upward-places, bringAll, bringAll-split, bringAll-length, movedCells, movedCells-length, pushes-bringAll}
+
+rewrite-high : (xs t : List ℕ) → rewriteNumber xs t ≤ length t
+unfolding rewriteNumber
+rewrite-high xs t = least-bound (λ r. inSequence xs (drop r t)) (length t)
+
+-- the last cells of the target, after the first r, do stand in sequence
+rewrite-sublist : (xs t : List ℕ) → Sublistᴰ (drop (rewriteNumber xs t) t) xs
+unfolding rewriteNumber
+rewrite-sublist xs t =
+    sequence-sublist xs (drop (rewriteNumber xs t) t)
+    (least-holds (λ r. inSequence xs (drop r t)) (length t) (length t) (omega arith) (rw drop-length refl))
+
+-- and r is least with that
+rewrite-least : (xs t : List ℕ) (k : ℕ) → Sublistᴰ (drop k t) xs → rewriteNumber xs t ≤ k
+unfolding rewriteNumber
+rewrite-least xs t k h = least-min (λ r. inSequence xs (drop r t)) (length t) k (sublist-sequence xs (drop k t) h)
+
+rewrite-many : (xs t : List ℕ) → length (rewritePushes xs t) ≡ rewriteNumber xs t
+unfolding rewritePushes
+rewrite-many xs t = length-reverse (take (rewriteNumber xs t) t) ∙ length-take-le (rewriteNumber xs t) t (rewrite-high xs t)
+
+-- the cell on top comes before every sublist that does not have it
+top-sublist : (c : ℕ) (s xs : List ℕ) → member c xs ≡ true → top xs ≡ c → member c s ≡ false → Sublistᴰ s xs → Sublistᴰ (c ∷ s) xs
+top-sublist c s [] m q out k = absurd (false≢true m)
+top-sublist c [] (x ∷ xs) m q out k = Sublistᴰ·cons-cons (sym q) (Sublistᴰ·nil-sublist xs)
+top-sublist c (b ∷ s) (x ∷ xs) m q out k =
+    Sublistᴰ·cons-cons (sym q) (skip-sublist (λ e. false≢true (sym out ∙ rw (sym q ∙ sym e) (member-first b s))) k)
+
+module _ (xs t : List ℕ) (dx : Distinct xs) (dt : Distinct t) (same : Same xs t) where
+  -- the first cell to push is not on top: else it would stand in sequence before the others
+  first-lower : (k : ℕ) → rewriteNumber xs t ≡ suc k → eqb (top xs) (getD t k 0) ≡ false
+  first-lower k e =
+      let c : ℕ = getD t k 0 in
+      let s : List ℕ = drop (suc k) t in
+      let high : suc k ≤ length t = omega (arith, rewrite-high xs t) in
+      let parts : drop k t ≡ c ∷ s = drop-cons t k 0 high in
+      let out : member c s ≡ false = distinct-head c s (rw parts at (distinct-drop k t dt)) in
+      by-name (top xs) c
+      (λ q f.
+      let more : Sublistᴰ (drop k t) xs = rw parts (top-sublist c s xs (same c ∙ member-getD t k high) q out (rw e at (rewrite-sublist xs t))) in
+      absurd (omega (arith, rewrite-least xs t k more)))
+      (λ q f. f)
+
+  first-distinct : (r : ℕ) → Distinct (take r t)
+  first-distinct r = distinct-left (take r t) (drop r t) (rw (take-append-drop r t) dt)
+
+  first-among : (r : ℕ) → Among (take r t) xs
+  first-among r c m = same c ∙ member-take c r t m
+
+  rewrite-reaches : pushCells (rewritePushes xs t) xs ≡ t
+  unfolding rewritePushes
+  rewrite-reaches =
+      let r : ℕ = rewriteNumber xs t in
+      let a : List ℕ = take r t in
+      let s : List ℕ = drop r t in
+      let whole : a ++ s ≡ t = take-append-drop r t in
+      let rest : without a xs ≡ s =
+      without-others a (rewrite-sublist xs t) dx (λ c m.
+      by-test (member c a)
+      (λ e. cc (distinct-apart a s (rw whole dt) c e))
+      (λ e. cc (same c, member-append c a s))) in
+      cc (upward-split xs dx a (first-distinct r) (first-among r))
+
+  rewrite-places : Places (length xs) (cellPlaces (rewritePushes xs t) xs)
+  unfolding rewritePushes
+  rewrite-places = row (rewriteNumber xs t) refl
+    where
+      row : (r : ℕ) → rewriteNumber xs t ≡ r → Places (length xs) (cellPlaces (reverse (take r t)) xs)
+      row zero e = tt
+      row (suc k) e =
+          let parts : take (suc k) t ≡ take k t ++ getD t k 0 ∷ [] = take-suc t k 0 (omega (arith, rewrite-high xs t)) in
+          rw parts (upward-places xs dx (take k t) (getD t k 0)
+          (rw parts at (first-distinct (suc k)))
+          (rw parts at (first-among (suc k)))
+          (first-lower k e))
+
+  -- the target's last cell alone always stands in sequence
+  rewrite-bound : 1 ≤ length t → rewriteNumber xs t ≤ length t - 1
+  rewrite-bound pos =
+      let k : ℕ = length t - 1 in
+      let c : ℕ = getD t k 0 in
+      let one : drop k t ≡ c ∷ [] =
+      drop-cons t k 0 (omega arith) ∙ ap (λ (l : List ℕ). c ∷ l) (drop-of-length-le t {i = suc k} (omega arith)) in
+      rewrite-least xs t k (rw one (sublist-one c xs (same c ∙ member-getD t k (omega arith))))
+
+  -- after any row of pushes that gives the target, the cells below the pushed ones stand as they did
+  rewrite-fewest : (is : List ℕ) → Places (length xs) is → pushes is xs ≡ t → rewriteNumber xs t ≤ length is
+  rewrite-fewest is p e =
+      let cs : List ℕ = movedCells is xs in
+      let u : ℕ = length (bringAll cs []) in
+      let rest : drop u t ≡ without cs xs =
+      ap (drop u) (sym e ∙ pushes-bringAll is xs dx p ∙ bringAll-split cs xs) ∙ drop-append-seam (bringAll cs []) (without cs xs) in
+      omega (arith, rewrite-least xs t u (rw rest (without-sublist cs xs)), bringAll-length cs [], movedCells-length is xs)
+
+pub rewriting : (n : ℕ) (xs target : List ℕ) → 1 ≤ n → IsPermutation n xs → IsPermutation n target → Rewriting n xs target
+rewriting n xs target pos o q =
+    let d : Distinct xs = permutation-distinct o in
+    let dt : Distinct target = permutation-distinct q in
+    let same : Same xs target = λ c. permutation-member o c ∙ sym (permutation-member q c) in
+    record {
+      reaches = rewrite-reaches xs target d dt same;
+      many = rewrite-many xs target;
+      places = rw (o .long) at (rewrite-places xs target d dt same);
+      at-most = omega (arith, rewrite-bound xs target d dt same (omega (arith, q .long)), q .long);
+      fewest = λ is p. rewrite-fewest xs target d dt same is (rw (o .long) p);
+    }
