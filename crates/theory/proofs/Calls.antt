@@ -4,12 +4,13 @@ use mathlib.Core.Bool.{true, false}
 use mathlib.Core.List.{List, [], _∷_, _++_}
 use Prim.Native.Nat.{ℕ, _+_, _≤_, _<_}
 use native.Mathlib.Omega.{arith}
-use borrow.Author.Tests.{le-leb, lt-leb}
+use borrow.Author.Tests.{le-leb, lt-leb, ne-eqb}
 use lib.ListN.{length}
-use Rattle.theory.specs.Reasons.{done, ceiling, sized, maxLevel}
+use Rattle.theory.specs.Reasons.{sized}
 use Rattle.theory.specs.Levels.{highest, ReadsAs, tied}
 use Rattle.theory.specs.CountUp.{callNumber, callPushes, callLevels}
 use Rattle.theory.specs.Run.{steps, stepLevels, afterCalls, callNumbers, stepsDone}
+use Rattle.theory.specs.Claims.{Calling}
 use Rattle.theory.specs.Demand3.{Done, Refused}
 use Rattle.theory.proofs.Cases.{by-le}
 use Rattle.theory.proofs.Sorting.{reads-untied}
@@ -18,20 +19,31 @@ use Rattle.theory.proofs.LevelRun.{run-length, run-reads, stepLevels-ad
 pub sized-true : (n : ℕ) → 2 ≤ n → n ≤ 20 → sized n ≡ true
 sized-true n low high = rw (le-leb 2 n low, le-leb n 20 high)
 
--- ---- one call, on levels that are neither too few or too many nor tied
+-- ---- one call
+
+pub calling : (k : ℕ) (L : List ℕ) → Calling k L
+unfolding callNumber callPushes callLevels
+calling k L = record {
+  size = λ s. rw s;
+  tie = λ s t. rw (s, t);
+  ceiling = λ s t h. rw (s, t, lt-leb);
+  done = λ s t h. rw (s, t, le-leb);
+  counted = λ e. rw e (refl, refl);
+  unchanged = λ ne. rw (ne-eqb (callNumber k L) 0 ne) (refl, refl);
+}
 
 module _ (k : ℕ) (L : List ℕ) (fits : sized (length L) ≡ true) (untied : tied L ≡ false) where
-  pub call-done : highest L + k ≤ maxLevel → Done k L
-  unfolding callNumber callPushes callLevels
+  pub call-done : highest L + k ≤ 65535 → Done k L
   call-done h =
-      let number : callNumber k L ≡ done = rw (fits, untied, le-leb (highest L + k) maxLevel h) in
-      record { number = number; pushes = rw number; levels = rw number }
+      let number : callNumber k L ≡ 0 = calling k L .done fits untied h in
+      let answer = calling k L .counted number in
+      record { number = number; pushes = answer .0; levels = answer .1 }
 
-  pub call-refused : maxLevel < highest L + k → Refused k L
-  unfolding callNumber callPushes callLevels
+  pub call-refused : 65535 < highest L + k → Refused k L
   call-refused h =
-      let number : callNumber k L ≡ ceiling = rw (fits, untied, lt-leb (highest L + k) maxLevel h) in
-      record { number = number; pushes = rw number; levels = rw number }
+      let number : callNumber k L ≡ 6 = calling k L .ceiling fits untied h in
+      let answer = calling k L .unchanged (λ e. omega arith) in
+      record { number = number; pushes = answer .0; levels = answer .1 }
 
 -- ---- a list of calls
 
@@ -41,7 +53,7 @@ unfolding afterCalls stepsDone stepLevels
 calls-run n low high [] L xs size r = refl
 calls-run n low high (k ∷ ks) L xs size r =
     let fits : sized (length L) ≡ true = sized-true (length L) (omega arith) (omega arith) in
-    by-le (highest L + k) maxLevel
+    by-le (highest L + k) 65535
     (λ h.
     let d : Done k L = call-done k L fits (reads-untied r) h in
     let M : List ℕ = stepLevels n k xs L in

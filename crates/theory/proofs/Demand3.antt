@@ -1,4 +1,4 @@
--- Demand 3 holds for every n from 2 to 20. Assumes nothing.
+-- Demand 3 holds for every n from 2 on, and of count-up calls for n up to 20. Assumes nothing.
 use mathlib.Core.Path.{_≡_, sym, ap, _∙_, subst}
 use mathlib.Core.Bool.{true}
 use mathlib.Core.List.{List}
@@ -17,7 +17,7 @@ use Rattle.theory.proofs.Sorting.{reads-permutationOf, reads-untied, re
 use Rattle.theory.proofs.LevelRun.{run-length, run-reads, run-highest, run-gap, run-jump, stepLevels-add, countUp-run}
 use Rattle.theory.proofs.Calls.{sized-true, call-done, call-refused, calls-run, call-number}
 
-module _ (n : ℕ) (low : 2 ≤ n) (high : n ≤ 20) (L : List ℕ) (s : Start n L) where
+module _ (n : ℕ) (low : 2 ≤ n) (L : List ℕ) (s : Start n L) where
   xs : List ℕ
   xs = permutationOf L
 
@@ -34,7 +34,7 @@ module _ (n : ℕ) (low : 2 ≤ n) (high : n ≤ 20) (L : List ℕ) (s : Start n
 
     after : afterCalls ks L ≡ stepLevels n K xs L
     unfolding K
-    after = calls-run n low high ks L xs (s .long) start-reads
+    after = calls-run n low (s .few) ks L xs (s .long) start-reads
 
     after-length : length (afterCalls ks L) ≡ n
     after-length = ap length after ∙ run-length n low L xs (s .long) start-reads K
@@ -43,37 +43,37 @@ module _ (n : ℕ) (low : 2 ≤ n) (high : n ≤ 20) (L : List ℕ) (s : Start n
     after-reads = subst (λ (M : List ℕ). ReadsAs M (steps n K xs)) (sym after) (run-reads n low L xs (s .long) start-reads K)
 
     after-fits : sized (length (afterCalls ks L)) ≡ true
-    after-fits = sized-true (length (afterCalls ks L)) (omega (arith, after-length)) (omega (arith, after-length))
+    after-fits = sized-true (length (afterCalls ks L)) (omega (arith, after-length)) (omega (arith, after-length, s .few))
 
     after-inside : (j : ℕ) → countUp j (afterCalls ks L) ≡ stepLevels n (K + j) xs L
     after-inside j =
         countUp-run n low j (afterCalls ks L) (steps n K xs) after-length after-reads
         ∙ ap (stepLevels n j (steps n K xs)) after ∙ stepLevels-add n K j xs L
 
-pub demand3 : (n : ℕ) → 2 ≤ n → n ≤ 20 → Demand3 n
+pub demand3 : (n : ℕ) → 2 ≤ n → Demand3 n
 unfolding xs K
-demand3 n low high = record {
+demand3 n low = record {
   permutation = run-permutation n low;
   ranks = run-rank n low;
   different = run-different n low;
   return = run-return n low;
   shares = run-shares n low;
   balance = run-balance n low;
-  level-start = start-permutation n low high;
-  levels = after n low high;
+  level-start = start-permutation n low;
+  levels = after n low;
   highest-level = λ L s ks.
-      ap highest (after n low high L s ks)
-      ∙ run-highest n low L (permutationOf L) (s .long) (start-reads n low high L s) (stepsDone ks L);
-  read = λ L s ks. reads-is (after-reads n low high L s ks);
+      ap highest (after n low L s ks)
+      ∙ run-highest n low L (permutationOf L) (s .long) (start-reads n low L s) (stepsDone ks L);
+  read = λ L s ks. reads-is (after-reads n low L s ks);
   level-ranks = λ L s ks.
-      ap (rank n) (reads-is (after-reads n low high L s ks))
-      ∙ run-rank n low (permutationOf L) (start-permutation n low high L s) (stepsDone ks L);
+      ap (rank n) (reads-is (after-reads n low L s ks))
+      ∙ run-rank n low (permutationOf L) (start-permutation n low L s) (stepsDone ks L);
   call-done = λ L s ks k.
-      call-done k (afterCalls ks L) (after-fits n low high L s ks) (reads-untied (after-reads n low high L s ks));
+      call-done k (afterCalls ks L) (after-fits n low L s ks) (reads-untied (after-reads n low L s ks));
   call-refused = λ L s ks k.
-      call-refused k (afterCalls ks L) (after-fits n low high L s ks) (reads-untied (after-reads n low high L s ks));
+      call-refused k (afterCalls ks L) (after-fits n low L s ks) (reads-untied (after-reads n low L s ks));
   call-number = call-number;
-  inside = after-inside n low high;
-  gap = λ L s. run-gap n low L (permutationOf L) (s .long) (start-reads n low high L s);
-  jumps = λ L s. run-jump n low L (permutationOf L) (s .long) (start-reads n low high L s);
+  inside = after-inside n low;
+  gap = λ L size g. run-gap n low L (permutationOf L) size (reads-permutationOf L (g .untied)) g;
+  jumps = λ L size g. run-jump n low L (permutationOf L) size (reads-permutationOf L (g .untied)) g;
 }

@@ -1,9 +1,10 @@
 -- Factorials are positive, those up to 20! fit 64 bits, and falling factorials are their quotients. Assumes nothing.
 use mathlib.Core.Path.{_≡_, refl, ap, sym, _∙_}
-use Prim.Native.Nat.{ℕ, zero, suc, _-_, _*_, _/_, _^_, _≤_, _<_}
+use Prim.Native.Nat.{ℕ, zero, suc, _-_, _*_, _/_, _≤_}
 use native.Mathlib.Nat.{le-of-suc-le-suc, mul-assoc, mul-le-mul-left, mul-le-mul-right, div-eq-of-eq-mul-left}
 use native.Mathlib.Omega.{arith}
 use Rattle.theory.specs.Factorial.{factorial, falling}
+use Rattle.theory.specs.Claims.{Factorials}
 
 pub factorial-pos : (n : ℕ) → 1 ≤ factorial n
 factorial-pos zero = omega arith
@@ -21,13 +22,6 @@ factorial-grows (suc m) zero h = absurd (omega arith)
 factorial-grows (suc m) (suc n) h =
     omega (arith, mul-le-mul-left (suc m) (factorial-grows m n (le-of-suc-le-suc h)), mul-le-mul-right (factorial n) h)
 
--- "20! = 2,432,902,008,176,640,000 fits 64 bits."
-pub factorial-20 : factorial 20 ≡ 2432902008176640000
-factorial-20 = refl
-
-pub factorial-fits : (n : ℕ) → n ≤ 20 → factorial n < 2 ^ 64
-factorial-fits n h = omega (arith, factorial-grows n 20 h, factorial-20)
-
 falling-factorial : (n p : ℕ) → p ≤ n → falling n p * factorial (n - p) ≡ factorial n
 falling-factorial n zero l = let q : n - 0 ≡ n = omega arith in rw q (omega arith)
 falling-factorial zero (suc p) l = absurd (omega arith)
@@ -42,3 +36,10 @@ falling-factorial (suc n) (suc p) l =
 -- n (n - 1) .. (n - p + 1) is n!/(n - p)!
 pub falling-quotient : (n p : ℕ) → p ≤ n → falling n p ≡ factorial n / factorial (n - p)
 falling-quotient n p l = sym (div-eq-of-eq-mul-left (factorial-pos (n - p)) (sym (falling-factorial n p l)))
+
+pub factorials : Factorials
+factorials = record {
+  twenty = refl;
+  fits = λ n h. omega (arith, factorial-grows n 20 h);
+  quotient = falling-quotient;
+}

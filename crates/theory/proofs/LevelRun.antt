@@ -14,7 +14,7 @@ use Rattle.theory.specs.Run.{steps, stepLevels}
 use Rattle.theory.proofs.Counts.{delta-self}
 use Rattle.theory.proofs.Permutations.{inside, top-inside, around}
 use Rattle.theory.proofs.Splits.{place-is, successor-bounds}
-use Rattle.theory.proofs.Cycle.{steps-add}
+use Rattle.theory.proofs.Cycle.{steps-add, run-permutation}
 use Rattle.theory.proofs.Extremes.{≤lowest, level-suc, lowest≤level}
 use Rattle.theory.proofs.Sorting.{reads-is}
 use Rattle.theory.proofs.Reading.{pushed-length, pushed-level, pushed-kept, pushed-highest, reads-push, reads-highest}
@@ -79,7 +79,7 @@ module _ (n : ℕ) (big : 2 ≤ n) (L xs : List ℕ) (size : length L ≡ n) (r 
   run-reads (suc k) = reads-step n big (run-length k) (run-reads k)
 
   permutation-run : (k : ℕ) → IsPermutation n (steps n k xs)
-  permutation-run k = subst (λ (j : ℕ). IsPermutation j (steps n k xs)) (run-length k) (run-reads k .permutation)
+  permutation-run = run-permutation n big xs (subst (λ (j : ℕ). IsPermutation j xs) size (r .permutation))
 
   -- the cell that step k + 1 pushes
   cell-run : (k : ℕ) → (1 ≤ top (steps n (suc k) xs)) × (top (steps n (suc k) xs) ≤ length (stepLevels n k xs L))
@@ -103,7 +103,7 @@ module _ (n : ℕ) (big : 2 ≤ n) (L xs : List ℕ) (size : length L ≡ n) (r 
       let c = top (steps n (suc k) xs) in
       subst (λ (t : ℕ). Tight n (level (pushLevel c M)) t (steps n (suc k) xs)) (sym (pushed-highest M c (b .0) (b .1)))
       (tight-step n (highest M) (level M) (level (pushLevel c M)) (steps n k xs) big (permutation-run k)
-      (pushed-kept M c (b .0) (b .1)) (pushed-level M c (b .0) (b .1)) (tight-run g k))
+      (pushed-kept M c (b .0)) (pushed-level M c (b .0) (b .1)) (tight-run g k))
 
   -- no cell is more than n below the top
   near-run : Gapless L → (k c : ℕ) → 1 ≤ c → c ≤ n → highest (stepLevels n k xs L) ≤ level (stepLevels n k xs L) c + n

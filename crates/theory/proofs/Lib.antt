@@ -5,6 +5,7 @@ pub mod Members
 pub mod Names
 pub mod Least
 pub mod Factorials
+pub mod Padding
 pub mod Splits
 pub mod Moves
 pub mod Stepping
@@ -28,3 +29,4 @@ pub mod Prefixes
 pub mod Passing
 pub mod Storing
 pub mod Readings
+pub mod Theory

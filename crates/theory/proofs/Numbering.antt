@@ -1,19 +1,20 @@
 -- The enumeration of prefixes in mixed radix: the digits of a number choose the names of its prefix one after another. Assumes nothing.
 use mathlib.Core.Path.{_≡_, refl, ap, _∙_}
 use mathlib.Core.Bool.{true, false, false≢true}
-use mathlib.Core.Logic.{inl, inr}
-use mathlib.Core.List.{List, [], _∷_, map, flatMap}
+use mathlib.Core.List.{List, [], _∷_, map, flatMap, Lexᴰ}
+use mathlib.Core.List.Lexᴰ.{Lexᴰ·rel, Lexᴰ·cons}
 use Prim.Native.Nat.{ℕ, zero, suc, _+_, _-_, _*_, _/_, _%_, _≤_, _<_}
-use native.Mathlib.Nat.{le-of-suc-le-suc, div-lt-iff-lt-mul, mod-lt, div-eq-of-lt, mod-eq-of-lt, div-add-mod', mul-add-div-right, mul-add-mod-self-right, add-div-left, add-mod-left, mul-le-mul-right}
+use native.Mathlib.Nat.{le-of-suc-le-suc, div-lt-iff-lt-mul, mod-lt, div-eq-of-lt, mod-eq-of-lt, div-add-mod', add-div-left, add-mod-left, mul-le-mul-right}
 use native.Mathlib.Numerals.{add-one}
 use native.Mathlib.Omega.{arith}
+use lib.Arith.{digits-lt, digits-div, digits-mod}
 use lib.ListN.{length, getD, length-append, length-map, List·getD-append}
 use lib.Seq.{getD-append-add}
 use borrow.Author.Tests.{eq-eqb}
 use Rattle.theory.specs.Lists.{member, without}
 use Rattle.theory.specs.Factorial.{falling}
 use Rattle.theory.specs.Permutation.{placeOf}
-use Rattle.theory.specs.Prefix.{prefixes, Before}
+use Rattle.theory.specs.Prefix.{prefixes}
 use Rattle.theory.proofs.Cases.{by-test, by-name, by-le, by-order}
 use Rattle.theory.proofs.Members.{Distinct, Among, distinct-head, distinct-tail, distinct-cons, distinct-without, member-first, member-later, member-differs, member-getD, member-without, without-among, without-one-length}
 use Rattle.theory.proofs.Names.{Ascending, ascending-distinct, ascending-without}
@@ -197,8 +198,7 @@ numberOf-below free (c ∷ q) d h =
     let left : List ℕ = without (c ∷ []) free in
     let below : numberOf left q < w =
     rw (weight-left (length q) free d c m) at (numberOf-below left q (distinct-without (c ∷ []) free d) (over-tail c free q h)) in
-    let i : suc (placeOf c free - 1) ≤ length free = omega (arith, placeOf-low c free, placeOf-high c free m) in
-    omega (arith, mul-le-mul-right w i)
+    digits-lt (omega (arith, placeOf-low c free, placeOf-high c free m)) below
 
 -- the prefix that has a prefix's number is that prefix
 pub prefixOf-numberOf : (free q : List ℕ) → Distinct free → Over free q → prefixOf (length q) free (numberOf free q) ≡ q
@@ -213,9 +213,7 @@ prefixOf-numberOf free (c ∷ q) d h =
     let i : ℕ = placeOf c free - 1 in
     let r : ℕ = numberOf left q in
     let below : r < w = rw (weight-left (length q) free d c m) at (numberOf-below left q dl tail) in
-    let high : (i * w + r) / w ≡ i = mul-add-div-right (omega arith) i r ∙ rw (div-eq-of-lt below) (omega arith) in
-    let low : (i * w + r) % w ≡ r = mul-add-mod-self-right i w r ∙ mod-eq-of-lt below in
-    cc (cellAt-placeOf c free m, prefixOf-numberOf left q dl tail)
+    cc (digits-div i below, digits-mod i below, cellAt-placeOf c free m, prefixOf-numberOf left q dl tail)
 
 getD-ascends : (xs : List ℕ) (i j : ℕ) → Ascending xs → i < j → j < length xs → getD xs i 0 < getD xs j 0
 getD-ascends [] i j a l h = absurd (omega arith)
@@ -225,7 +223,7 @@ getD-ascends (x ∷ xs) (suc i) (suc j) a l h = getD-ascends xs i j (a .1) (le-o
 
 -- over names that ascend, the prefix of the lower number comes first: by its first digit, or by the rest where that is the same
 pub prefixOf-before :
-    (p : ℕ) (free : List ℕ) (s t : ℕ) → Ascending free → s < t → t < falling (length free) p → Before (prefixOf p free s) (prefixOf p free t)
+    (p : ℕ) (free : List ℕ) (s t : ℕ) → Ascending free → s < t → t < falling (length free) p → Lexᴰ _<_ (prefixOf p free s) (prefixOf p free t)
 unfolding prefixOf
 prefixOf-before zero free s t a l u = absurd (omega arith)
 prefixOf-before (suc p) free s t a l u =
@@ -236,9 +234,9 @@ prefixOf-before (suc p) free s t a l u =
     let es : s / w * w + s % w ≡ s = div-add-mod' s w in
     let et : t / w * w + t % w ≡ t = div-add-mod' t w in
     by-order (s / w) (t / w)
-    (λ less. inl (getD-ascends free (s / w) (t / w) a less (g .index)))
+    (λ less. Lexᴰ·rel (getD-ascends free (s / w) (t / w) a less (g .index)))
     (λ more. absurd (omega (arith, mul-le-mul-right w more, g .digit)))
     (λ same.
     let c : firstName p free s ≡ firstName p free t = ap (λ (i : ℕ). getD free i 0) same in
     let rest : s % w < t % w = omega (arith, ap (λ (i : ℕ). i * w) same) in
-    inr (c, rw c (prefixOf-before p (without (firstName p free t ∷ []) free) (s % w) (t % w) (ascending-without (firstName p free t ∷ []) free a) rest (g .fits))))
+    Lexᴰ·cons c (rw c (prefixOf-before p (without (firstName p free t ∷ []) free) (s % w) (t % w) (ascending-without (firstName p free t ∷ []) free a) rest (g .fits))))

@@ -1,8 +1,8 @@
 -- The storing rule, by which a cell on top is passed over: what it leaves, and its pushes, for any prefix. Assumes nothing.
 use mathlib.Core.Path.{_≡_, refl, ap, sym, _∙_}
-use mathlib.Core.Bool.{true, false≢true}
+use mathlib.Core.Bool.{true, false, cond, or-false, false≢true}
 use mathlib.Core.List.{List, [], _∷_, _++_, append-nil}
-use Prim.Native.Nat.{ℕ}
+use Prim.Native.Nat.{ℕ, _+_, _≤_}
 use native.Mathlib.Omega.{arith}
 use lib.Dec.{eqb}
 use lib.ListN.{length, length-append}
@@ -12,8 +12,8 @@ use Rattle.theory.specs.Permutation.{top}
 use Rattle.theory.specs.Push.{Places, pushCell, pushCells, cellPlaces}
 use Rattle.theory.specs.Store.{storeCell, storePrefix, storeCount, storePushes}
 use Rattle.theory.proofs.Cases.{by-test, by-name}
-use Rattle.theory.proofs.Members.{Distinct, Among, distinct-head, among-tail, without-absent}
-use Rattle.theory.proofs.Rows.{pushCell-bring, pushCells-snoc, places-snoc, upward, upward-cons, upward-rearranged, upward-member, upward-split, upward-place}
+use Rattle.theory.proofs.Members.{Distinct, Among, distinct-head, distinct-tail, member-later, member-append, among-tail, without-absent}
+use Rattle.theory.proofs.Rows.{pushCell-bring, pushCells-snoc, places-snoc, upward, upward-cons, upward-rearranged, upward-member, upward-split, upward-top, upward-place}
 
 -- a cell that is passed over is on top, so that a push of it would change nothing
 storeCell-push : (c : ℕ) (xs : List ℕ) → Distinct xs → member c xs ≡ true → storeCell c xs ≡ pushCell c xs
@@ -43,6 +43,27 @@ storeCount-pushes (c ∷ p) xs =
     (λ e. rw (e, append-nil (storePushes p xs)) (omega arith))
     (λ e. rw (e, length-append (storePushes p xs) (c ∷ [])) (omega arith))
 
+-- at most one for each cell of p
+pub storeCount-most : (p xs : List ℕ) → storeCount p xs ≤ length p
+unfolding storeCount
+storeCount-most [] xs = omega arith
+storeCount-most (c ∷ p) xs =
+    let ih : storeCount p xs ≤ length p = storeCount-most p xs in
+    by-test (eqb (top (storePrefix p xs)) c) (λ e. rw e (omega arith)) (λ e. rw e (omega arith))
+
+-- it pushes cells of p
+pub storePushes-among : (p xs : List ℕ) → Among (storePushes p xs) p
+unfolding storePushes
+storePushes-among [] xs c m = m
+storePushes-among (b ∷ p) xs c m =
+    let later : member c (storePushes p xs) ≡ true → member c (b ∷ p) ≡ true = λ k. member-later c b p (storePushes-among p xs c k) in
+    by-test (eqb (top (storePrefix p xs)) b)
+    (λ e. later (rw (e, append-nil (storePushes p xs)) at m))
+    (λ e. by-name c b
+    (λ q f. cc)
+    (λ q f. later (sym (or-false (member c (storePushes p xs)))
+    ∙ cc (member-append c (storePushes p xs) (b ∷ []), or-false (eqb c b)))))
+
 module _ (xs : List ℕ) (d : Distinct xs) where
   -- it leaves what pushes of all cells of p would leave
   storePrefix-upward : (p : List ℕ) → Among p xs → storePrefix p xs ≡ upward p xs
@@ -55,6 +76,18 @@ module _ (xs : List ℕ) (d : Distinct xs) where
 
   pub storePrefix-split : (p : List ℕ) → Distinct p → Among p xs → storePrefix p xs ≡ p ++ without p xs
   storePrefix-split p dp h = storePrefix-upward p h ∙ upward-split xs d p dp h
+
+  -- all cells are pushed but the last of p, which comes first, where that is on top
+  pub storeCount-passed : (p : List ℕ) (c : ℕ) → Distinct (p ++ c ∷ []) → Among (p ++ c ∷ []) xs
+      → storeCount (p ++ c ∷ []) xs + cond (eqb (top xs) c) 1 0 ≡ length (p ++ c ∷ [])
+  unfolding storeCount storePrefix
+  storeCount-passed [] c dp h = by-test (eqb (top xs) c) (λ e. rw e (omega arith)) (λ e. rw e (omega arith))
+  storeCount-passed (b ∷ p) c dp h =
+      let q : List ℕ = p ++ c ∷ [] in
+      let below : Among q xs = among-tail b q xs h in
+      let other : eqb (top (storePrefix q xs)) b ≡ false =
+      rw (storePrefix-upward q below) (upward-top xs d b q dp h (omega (arith, length-append p (c ∷ [])))) in
+      rw other (omega (arith, storeCount-passed p c (distinct-tail b q dp) below))
 
   -- each of its pushes is at a place 2 to n
   pub storePushes-places : (p : List ℕ) → Among p xs → Places (length xs) (cellPlaces (storePushes p xs) xs)

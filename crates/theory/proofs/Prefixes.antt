@@ -7,14 +7,17 @@ use native.Mathlib.Nat.{div-one, div-self}
 use native.Mathlib.Omega.{arith}
 use lib.Dec.{leb}
 use lib.ListN.{length, take, drop, take-append-drop}
+use lib.Seq.{length-take-le}
 use borrow.Author.Tests.{eq-eqb, le-leb, leb-true, leb-false}
 use Rattle.theory.specs.Lists.{begins, names}
 use Rattle.theory.specs.Factorial.{factorial, falling}
 use Rattle.theory.specs.Least.{least}
-use Rattle.theory.specs.Prefix.{prefixes, prefixAt, prefixNumber, prefixLength}
-use Rattle.theory.specs.Claims.{IsPrefix, Numbering, Coding}
+use Rattle.theory.specs.Permutation.{IsPermutation}
+use Rattle.theory.specs.Prefix.{IsPrefix, prefixes, prefixAt, prefixNumber, prefixLength, symbolPrefix, symbolOf}
+use Rattle.theory.specs.Claims.{Numbering, Coding}
 use Rattle.theory.proofs.Cases.{by-test, by-name}
-use Rattle.theory.proofs.Members.{Distinct}
+use Rattle.theory.proofs.Permutations.{inside}
+use Rattle.theory.proofs.Members.{Distinct, permutation-distinct, distinct-left, member-count, member-take}
 use Rattle.theory.proofs.Names.{ascending-distinct, names-length, names-low, names-high, names-member, names-ascending}
 use Rattle.theory.proofs.Least.{least-holds, least-bound, least-min}
 use Rattle.theory.proofs.Factorials.{factorial-pos, falling-quotient}
@@ -116,8 +119,18 @@ numbering n p l =
           rw (prefixNumber-numberOf n p xs h, many) (numberOf-fits n p xs h, prefixAt-numberOf n p xs h);
     }
 
+-- the first p cells of a permutation are a prefix
+permutation-prefix : {n : ℕ} (p : ℕ) (xs : List ℕ) → p ≤ n → IsPermutation n xs → IsPrefix n p (take p xs)
+permutation-prefix {n} p xs h o =
+    let whole : take p xs ++ drop p xs ≡ xs = take-append-drop p xs in
+    record {
+      long = length-take-le p xs (omega (arith, o .long));
+      distinct = distinct-left (take p xs) (drop p xs) (rw whole (permutation-distinct o));
+      named = λ c m. inside n xs o c (member-count c xs (member-take c p xs m));
+    }
+
 pub coding : (n m : ℕ) → m ≤ factorial n → Coding n m
-unfolding prefixLength
+unfolding prefixLength symbolPrefix symbolOf
 coding n m fits =
     let test : ℕ → Bool = λ p. leb m (factorial n / factorial (n - p)) in
     let none : n - n ≡ 0 = omega arith in
@@ -125,10 +138,14 @@ coding n m fits =
     let last : m ≤ factorial n / factorial (n - n) = rw (none, div-one (factorial n)) fits in
     let p : ℕ = prefixLength n m in
     record {
-      at-most = least-bound test n;
+      at-most = least-bound _ n;
       enough = leb-true m (factorial n / factorial (n - p)) (least-holds test n n (omega arith) (le-leb m (factorial n / factorial (n - n)) last));
       least = λ q less.
           by-test (test q) (λ e. absurd (omega (arith, least-min test n q e))) (leb-false m (factorial n / factorial (n - q)));
+      reads = λ xs o.
+          let numbers : Numbering n p = numbering n p (least-bound _ n) in
+          let w = numbers .prefix-number xs (permutation-prefix p xs (least-bound _ n) o) in
+          (omega (arith, w .0, numbers .many), w .1);
       one = λ e.
           let first : m ≤ factorial n / factorial (n - 0) = rw (all, div-self (factorial-pos n)) (omega arith) in
           omega (arith, least-min test n 0 (le-leb m (factorial n / factorial (n - 0)) first));

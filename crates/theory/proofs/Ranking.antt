@@ -1,6 +1,6 @@
 -- Permutations of n cells and ranks below n! are each other's inverse, and the digits determine the rank. Assumes nothing.
 use mathlib.Core.Path.{_≡_, refl, sym, ap, ap₂, _∙_, subst}
-use mathlib.Core.List.{List, [], _∷_, _++_, reverse, reverse-reverse}
+use mathlib.Core.List.{List, [], _∷_, _++_, reverse, reverse-append, reverse-reverse}
 use Prim.Native.Nat.{ℕ, zero, suc, _+_, _-_, _*_, _/_, _%_, _≤_, _<_}
 use native.Mathlib.Nat.{mod-lt, mod-eq-of-lt, div-add-mod, add-mul-mod-self-left, add-mul-div-left, div-eq-of-lt, div-lt-iff-lt-mul}
 use native.Mathlib.Omega.{arith}
@@ -154,6 +154,12 @@ rank-injective {n} {xs} {ys} o p e = sym (unrank-rank n xs o) ∙ ap (unrank n) 
 
 -- ---- digits
 
+digits-range : (n : ℕ) (xs : List ℕ) (i : ℕ) → i < n → getD (digits n xs) i 0 < n - i
+unfolding digits
+digits-range zero xs i h = absurd (omega arith)
+digits-range (suc m) xs zero h = omega (arith, digit-lt m (placeOf (suc m) xs))
+digits-range (suc m) xs (suc i) h = omega (arith, digits-range m (remaining (placeOf (suc m) xs) xs) i (omega arith))
+
 pub digits-long : (n : ℕ) (xs : List ℕ) → length (digits n xs) ≡ n
 unfolding digits
 digits-long zero xs = refl
@@ -180,13 +186,19 @@ digits-rank (suc m) xs =
     ap (λ (t : ℕ). digit (suc m) i + suc m * t)
     (ap (λ (k : ℕ). digitValue k (digits m (remaining i xs))) e ∙ digits-rank m (remaining i xs))
 
+circle : (i : ℕ) (xs : List ℕ) → remaining i xs ≡ reverse (drop i xs ++ take (i - 1) xs)
+unfolding remaining
+circle i xs = sym (reverse-append (drop i xs) (take (i - 1) xs))
+
 pub ranking : (n : ℕ) → Ranking n
 ranking n = record {
   below = rank-lt n;
   unrank-rank = unrank-rank n;
   rank-unrank = rank-unrank n;
   unrank-permutation = unrank-permutation n;
+  circle = circle;
   digits-long = digits-long n;
+  digits-range = digits-range n;
   digits-last = digits-last n;
   digits-rank = digits-rank n;
 }

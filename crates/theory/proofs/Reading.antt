@@ -4,19 +4,19 @@ use mathlib.Core.Bool.{true, false}
 use mathlib.Core.List.{List, [], _∷_, _++_}
 use Prim.Native.Nat.{ℕ, zero, suc, _+_, _-_, _≤_}
 use native.Mathlib.Omega.{arith}
-use lib.ListN.{length, length-set}
+use lib.ListN.{length, getD, length-set}
 use lib.Seq.{getD-set-same, getD-set-other}
 use Rattle.theory.specs.Lists.{count, member}
 use Rattle.theory.specs.Permutation.{IsPermutation, cellAt, top}
 use Rattle.theory.specs.Push.{push, pushCell, pushCells}
-use Rattle.theory.specs.Levels.{level, highest, tied, permutationOf, Falls, ReadsAs, pushLevel, pushLevels}
+use Rattle.theory.specs.Levels.{level, highest, lowest, tied, permutationOf, Falls, ReadsAs, pushLevel, pushLevels, jump}
 use Rattle.theory.specs.Claims.{Reading}
 use Rattle.theory.proofs.Cases.{by-name}
 use Rattle.theory.proofs.Counts.{delta-self, delta-ne, count-append, Split, split, adds-top, adds-between}
 use Rattle.theory.proofs.Permutations.{moved, inside, absent-zero}
-use Rattle.theory.proofs.Members.{member-first, member-later}
+use Rattle.theory.proofs.Members.{member-first, member-later, member-getD, member-count}
 use Rattle.theory.proofs.Splits.{at, push-is, place-is}
-use Rattle.theory.proofs.Extremes.{highest≤, level-suc, level≤highest}
+use Rattle.theory.proofs.Extremes.{highest≤, ≤lowest, level-suc, level≤highest, lowest≤level}
 use Rattle.theory.proofs.Sorting.{reads-permutationOf, reads-untied, reads-is}
 
 -- levels lv′ that are lv but for cell c
@@ -27,16 +27,16 @@ Kept lv lv′ c = (d : ℕ) → 1 ≤ d → (d ≡ c → ⊥) → lv′ d ≡ lv
 
 pub pushed-length : (c : ℕ) (L : List ℕ) → length (pushLevel c L) ≡ length L
 unfolding pushLevel
-pushed-length c L = length-set L (c - 1) (highest L + 1)
+pushed-length c L = length-set L (c - 1) _
+
+pub pushed-kept : (L : List ℕ) (c : ℕ) → 1 ≤ c → Kept (level L) (level (pushLevel c L)) c
+unfolding pushLevel
+pushed-kept L c low d h ne = getD-set-other L (c - 1) (d - 1) _ 0 (λ e. ne (omega arith))
 
 module _ (L : List ℕ) (c : ℕ) (low : 1 ≤ c) (high : c ≤ length L) where
   pub pushed-level : level (pushLevel c L) c ≡ suc (highest L)
   unfolding pushLevel
-  pushed-level = getD-set-same L (c - 1) (highest L + 1) 0 (omega arith) ∙ omega arith
-
-  pub pushed-kept : Kept (level L) (level (pushLevel c L)) c
-  unfolding pushLevel
-  pushed-kept d h ne = getD-set-other L (c - 1) (d - 1) (highest L + 1) 0 (λ e. ne (omega arith))
+  pushed-level = getD-set-same L (c - 1) _ 0 (omega arith) ∙ omega arith
 
   pub pushed-highest : highest (pushLevel c L) ≡ suc (highest L)
   pushed-highest =
@@ -44,8 +44,12 @@ module _ (L : List ℕ) (c : ℕ) (low : 1 ≤ c) (high : c ≤ length L) where
       highest≤ (pushLevel c L) (suc (highest L))
       (λ i h. by-name (suc i) c
       (λ q e. omega (arith, level-suc (pushLevel c L) i, ap (level (pushLevel c L)) q, pushed-level))
-      (λ ne e. omega (arith, level-suc (pushLevel c L) i, pushed-kept (suc i) (omega arith) ne, level≤highest L (suc i)))) in
+      (λ ne e. omega (arith, level-suc (pushLevel c L) i, pushed-kept L c low (suc i) (omega arith) ne, level≤highest L (suc i)))) in
       omega (arith, level≤highest (pushLevel c L) c, pushed-level)
+
+jump-is : (L : List ℕ) (c : ℕ) → 1 ≤ c → c ≤ length L → level L c + jump c L ≡ level (pushLevel c L) c
+unfolding jump
+jump-is L c low high = omega (arith, pushed-level L c low high, level≤highest L c)
 
 -- ---- the permutation read from the levels
 
@@ -77,7 +81,7 @@ reads-lifted {L} {xs} u c v e r =
     let n : ℕ = length L in
     let o : IsPermutation n (c ∷ (u ++ v)) = moved (adds-between u v e) (adds-top c (u ++ v)) (r .permutation) in
     let b : (1 ≤ c) × (c ≤ n) = inside n (c ∷ (u ++ v)) o c (omega (arith, delta-self c)) in
-    let kept : Kept (level L) (level (pushLevel c L)) c = pushed-kept L c (b .0) (b .1) in
+    let kept : Kept (level L) (level (pushLevel c L)) c = pushed-kept L c (b .0) in
     let none : count c (u ++ v) ≡ 0 = omega (arith, o .once c (b .0) (b .1), delta-self c) in
     let zero-none : count 0 (u ++ v) ≡ 0 = omega (arith, absent-zero o) in
     record {
@@ -135,12 +139,39 @@ reads-highest {L} (x ∷ xs) h r =
     ))) in
     omega (arith, level≤highest L x)
 
+-- the bottom cell has the lowest level
+falls-bottom : (L : List ℕ) (x : ℕ) (xs : List ℕ) → Falls L (x ∷ xs) → (c : ℕ) → 1 ≤ count c (x ∷ xs) → level L (getD (x ∷ xs) (length xs) 0) ≤ level L c
+falls-bottom L x [] f c h = by-name x c (λ q e. omega (arith, ap (level L) q)) (λ ne e. absurd (omega (arith, delta-ne x c ne)))
+falls-bottom L x (y ∷ xs) f c h =
+    by-name x c
+    (λ q e.
+    omega (arith, falls-bottom L y xs (f .1) y (omega (arith, delta-self y)), f .0 y (omega (arith, delta-self y)), ap (level L) q))
+    (λ ne e. falls-bottom L y xs (f .1) c (omega (arith, delta-ne x c ne)))
+
+reads-lowest : {L : List ℕ} (xs : List ℕ) → 1 ≤ length L → ReadsAs L xs → level L (cellAt (length L) xs) ≡ lowest L
+reads-lowest [] h r = absurd (omega (arith, r .permutation .long))
+reads-lowest {L} (x ∷ xs) h r =
+    let o = r .permutation in
+    let last : length L - 1 ≡ length xs = omega (arith, o .long) in
+    let c : ℕ = getD (x ∷ xs) (length xs) 0 in
+    let b = inside (length L) (x ∷ xs) o c (member-count c (x ∷ xs) (member-getD (x ∷ xs) (length xs) (omega arith))) in
+    let low : level L c ≤ lowest L =
+    ≤lowest L (level L c) h
+    (λ i l. omega (arith, level-suc L i, falls-bottom L x xs (r .falls) (suc i) (omega (arith, o .once (suc i) (omega arith) (omega arith))))) in
+    ap (λ (i : ℕ). level L (getD (x ∷ xs) i 0)) last ∙ omega (arith, lowest≤level L c (b .0) (b .1))
+
 pub reading : (L : List ℕ) → tied L ≡ false → Reading L
 reading L h =
     let r : ReadsAs L (permutationOf L) = reads-permutationOf L h in
     record {
       reads = r;
       only = λ xs. reads-is;
+      top-highest = λ h. reads-highest (permutationOf L) h r;
+      bottom-lowest = λ h. reads-lowest (permutationOf L) h r;
+      push-level = λ c low high. pushed-level L c low high ∙ omega arith;
+      push-others = λ c d low. pushed-kept L c low d;
+      push-length = λ c. pushed-length c L;
+      push-jump = jump-is L;
       push-read = λ i low high. reads-is (reads-push i low high r);
       push-highest = λ c low high. pushed-highest L c low high ∙ omega arith;
       push-untied = λ c low high. reads-untied (reads-cell c low high r);

@@ -8,13 +8,15 @@ use native.Mathlib.Omega.{arith}
 use lib.Dec.{eqb}
 use lib.ListN.{length, getD, take, drop, take-append-drop, length-reverse, drop-of-length-le}
 use lib.Seq.{take-suc, drop-cons, drop-length, drop-append-seam, length-take-le}
-use Rattle.theory.specs.Lists.{member, without}
+use Rattle.theory.specs.Lists.{count, member, without}
 use Rattle.theory.specs.Permutation.{IsPermutation, top}
 use Rattle.theory.specs.Push.{pushes, Places, pushCells, cellPlaces}
 use Rattle.theory.specs.Rewrite.{inSequence, rewriteNumber, rewritePushes}
 use Rattle.theory.specs.Claims.{Rewriting}
 use Rattle.theory.proofs.Cases.{by-test, by-name}
-use Rattle.theory.proofs.Members.{Distinct, Same, Among, permutation-distinct, distinct-head, distinct-left, distinct-drop, distinct-apart, member-first, member-append, member-take, member-getD}
+use Rattle.theory.proofs.Counts.{count-append, count-reverse}
+use Rattle.theory.proofs.Permutations.{inside}
+use Rattle.theory.proofs.Members.{member-count, Distinct, Same, Among, permutation-distinct, distinct-head, distinct-left, distinct-drop, distinct-apart, member-first, member-append, member-take, member-getD}
 use Rattle.theory.proofs.Names.{permutation-member}
 use Rattle.theory.proofs.Least.{least-holds, least-bound, least-min}
 use Rattle.theory.proofs.Sublists.{sequence-sublist, skip-sublist, sublist-sequence, without-sublist, sublist-one, without-others}
@@ -39,6 +41,18 @@ rewrite-least xs t k h = least-min (λ r. inSequence xs (drop r t)) (length t) k
 rewrite-many : (xs t : List ℕ) → length (rewritePushes xs t) ≡ rewriteNumber xs t
 unfolding rewritePushes
 rewrite-many xs t = length-reverse (take (rewriteNumber xs t) t) ∙ length-take-le (rewriteNumber xs t) t (rewrite-high xs t)
+
+rewrite-cells : (xs t : List ℕ) (c : ℕ) → member c (rewritePushes xs t) ≡ true → 1 ≤ count c t
+unfolding rewritePushes
+rewrite-cells xs t c m =
+    let r : ℕ = rewriteNumber xs t in
+    omega (
+      arith,
+      member-count c (reverse (take r t)) m,
+      count-reverse c (take r t),
+      count-append c (take r t) (drop r t),
+      ap (count c) (take-append-drop r t),
+    )
 
 -- the cell on top comes before every sublist that does not have it
 top-sublist : (c : ℕ) (s xs : List ℕ) → member c xs ≡ true → top xs ≡ c → member c s ≡ false → Sublistᴰ s xs → Sublistᴰ (c ∷ s) xs
@@ -121,6 +135,7 @@ rewriting n xs target pos o q =
     record {
       reaches = rewrite-reaches xs target d dt same;
       many = rewrite-many xs target;
+      cells = λ c m. inside n target q c (rewrite-cells xs target c m);
       places = rw (o .long) at (rewrite-places xs target d dt same);
       at-most = omega (arith, rewrite-bound xs target d dt same (omega (arith, q .long)), q .long);
       fewest = λ is p. rewrite-fewest xs target d dt same is (rw (o .long) p);

@@ -96,6 +96,11 @@ module _ (xs : List ℕ) (d : Distinct xs) where
         without-same (p ++ c ∷ []) (c ∷ p) xs swap,
       )
 
+  -- the next cell of p is not on top when its turn comes, but for the last
+  pub upward-top : (c : ℕ) (p : List ℕ) → Distinct (c ∷ p) → Among (c ∷ p) xs → 1 ≤ length p → eqb (top (upward p xs)) c ≡ false
+  upward-top c p dp h pos =
+      rw (upward-split p (distinct-tail c p dp) (among-tail c p xs h)) (top-differs c p (without p xs) (distinct-head c p dp) pos)
+
   -- one more push, of a cell that is not on top, is at a place 2 to n
   pub upward-place : (c : ℕ) (p : List ℕ) → Among (c ∷ p) xs → eqb (top (upward p xs)) c ≡ false
       → (2 ≤ placeOf c (upward p xs)) × (placeOf c (upward p xs) ≤ length xs)
@@ -109,12 +114,11 @@ module _ (xs : List ℕ) (d : Distinct xs) where
   upward-places [] c dp h other = let b = upward-place c [] h other in (b .0, b .1, tt)
   upward-places (b ∷ p) c dp h other =
       let q : List ℕ = p ++ c ∷ [] in
-      let dq : Distinct q = distinct-tail b q dp in
-      let below : Among q xs = among-tail b q xs h in
-      let differs : eqb (top (upward q xs)) b ≡ false =
-      rw (upward-split q dq below) (top-differs b q (without q xs) (distinct-head b q dp) (omega (arith, length-append p (c ∷ [])))) in
-      let k = upward-place b q h differs in
-      rw (reverse-cons b q) (places-snoc (length xs) (reverse q) b xs (upward-places p c dq below other) (k .0) (k .1))
+      let k = upward-place b q h (upward-top b q dp h (omega (arith, length-append p (c ∷ [])))) in
+      rw (reverse-cons b q)
+      (places-snoc (length xs) (reverse q) b xs
+      (upward-places p c (distinct-tail b q dp) (among-tail b q xs h) other)
+      (k .0) (k .1))
 
 -- cells brought to the top one after another
 abbrev pub bringAll : List ℕ → List ℕ → List ℕ

@@ -1,26 +1,29 @@
 -- Storing a symbol in a permutation: what is left, by which pushes, and that the symbol is read. Assumes nothing.
-use mathlib.Core.Path.{_≡_, refl, ap, _∙_}
+use mathlib.Core.Path.{_≡_, ap, _∙_}
 use mathlib.Core.List.{List, [], _∷_, _++_}
-use Prim.Native.Nat.{ℕ, _≤_, _<_}
+use Prim.Native.Nat.{ℕ, suc, _-_, _≤_, _<_}
 use native.Mathlib.Omega.{arith}
-use lib.ListN.{length}
+use lib.ListN.{length, take, drop-of-length-le}
+use lib.Seq.{split-at}
 use Rattle.theory.specs.Lists.{without, names}
 use Rattle.theory.specs.Factorial.{factorial}
-use Rattle.theory.specs.Permutation.{IsPermutation}
-use Rattle.theory.specs.Prefix.{prefixes, prefixLength, symbolPrefix, symbolOf}
+use Rattle.theory.specs.Permutation.{IsPermutation, cellAt}
+use Rattle.theory.specs.Prefix.{IsPrefix, prefixes, prefixLength, symbolPrefix, symbolOf}
 use Rattle.theory.specs.Store.{storePrefix, storeCount}
-use Rattle.theory.specs.Claims.{IsPrefix, Numbering, Coding, Storing}
+use Rattle.theory.specs.Claims.{Numbering, Coding, Storing}
 use Rattle.theory.proofs.Members.{Distinct, Among, permutation-distinct}
 use Rattle.theory.proofs.Names.{permutation-member}
-use Rattle.theory.proofs.Passing.{storePushes-pushed, storeCount-pushes, storePrefix-split, storePushes-places}
+use Rattle.theory.proofs.Passing.{storePushes-pushed, storeCount-pushes, storeCount-most, storePushes-among, storePrefix-split, storeCount-passed, storePushes-places}
 use Rattle.theory.proofs.Prefixes.{prefix-over, numbering, coding}
 
-empty : (q : List ℕ) → length q ≡ 0 → q ≡ []
-empty [] h = refl
-empty (c ∷ q) h = absurd (omega arith)
+-- a list of p entries, split at its last
+last-split : (p : ℕ) (q : List ℕ) → 1 ≤ p → length q ≡ p → q ≡ take (p - 1) q ++ cellAt p q ∷ []
+last-split p q pos h =
+    split-at q (p - 1) 0 (omega arith)
+    ∙ ap (λ (l : List ℕ). take (p - 1) q ++ cellAt p q ∷ l) (drop-of-length-le q {i = suc (p - 1)} (omega arith))
 
 pub storing : (n m s : ℕ) (xs : List ℕ) → m ≤ factorial n → s < m → IsPermutation n xs → Storing n m s xs
-unfolding symbolPrefix symbolOf storeCount
+unfolding symbolPrefix symbolOf
 storing n m s xs codes symbol o =
     let code : Coding n m = coding n m codes in
     let numbers : Numbering n (prefixLength n m) = numbering n (prefixLength n m) (code .at-most) in
@@ -35,6 +38,17 @@ storing n m s xs codes symbol o =
       pushed = storePushes-pushed q xs;
       places = rw (o .long) at (storePushes-places xs d q cells);
       counted = storeCount-pushes q xs;
-      one = λ e. ap (λ (p : List ℕ). storeCount p xs) (empty q (prefix .long ∙ code .one e));
+      cells = λ c k. prefix .named c (storePushes-among q xs c k);
+      passed = λ pos.
+          let p : ℕ = prefixLength n m in
+          let parts : q ≡ take (p - 1) q ++ cellAt p q ∷ [] = last-split p q pos (prefix .long) in
+          omega (
+            arith,
+            storeCount-passed xs d (take (p - 1) q) (cellAt p q) (rw (← parts) (prefix .distinct)) (rw (← parts) cells),
+            ap (λ (l : List ℕ). storeCount l xs) parts,
+            ap length parts,
+            prefix .long,
+          );
+      one = λ e. omega (arith, storeCount-most q xs, code .one e, prefix .long);
       read = ap (symbolOf n m) split ∙ numbers .number-prefix s (without q xs) fits;
     }

@@ -1,45 +1,73 @@
--- What is claimed of the meanings, for every n: ranks, steps, levels, rewriting, prefixes and storing. The theorems are in proofs/. Assumes nothing.
+-- What is claimed of the meanings, topic by topic. `specs/Theory` says under which conditions each claim is proved. Assumes nothing.
 use mathlib.Core.Path.{_≡_}
-use mathlib.Core.Bool.{true, false}
-use mathlib.Core.List.{List, _++_}
-use Prim.Native.Nat.{ℕ, _+_, _-_, _/_, _%_, _≤_, _<_}
-use lib.ListN.{length, getD, take}
-use Rattle.theory.specs.Lists.{member, repeats, without, names}
-use Rattle.theory.specs.Factorial.{factorial}
-use Rattle.theory.specs.Permutation.{IsPermutation, cellAt}
+use mathlib.Core.Bool.{true, false, cond}
+use mathlib.Core.List.{List, _++_, reverse, Lexᴰ}
+use Prim.Native.Nat.{ℕ, _+_, _-_, _/_, _%_, _^_, _≤_, _<_}
+use lib.Dec.{eqb}
+use lib.ListN.{length, getD, take, drop}
+use Rattle.theory.specs.Reasons.{sized}
+use Rattle.theory.specs.Lists.{member, without, names}
+use Rattle.theory.specs.Factorial.{factorial, falling}
+use Rattle.theory.specs.Permutation.{IsPermutation, row, cellAt, top}
 use Rattle.theory.specs.Push.{push, pushes, Places, pushCells, cellPlaces}
 use Rattle.theory.specs.Successor.{successor, step}
-use Rattle.theory.specs.Rank.{rank, digits, digitValue}
+use Rattle.theory.specs.Rank.{remaining, rank, digits, digitValue}
 use Rattle.theory.specs.Unrank.{unrank}
-use Rattle.theory.specs.Levels.{highest, tied, permutationOf, ReadsAs, pushLevel, pushLevels}
+use Rattle.theory.specs.Levels.{level, highest, lowest, tied, permutationOf, ReadsAs, pushLevel, pushLevels, jump}
+use Rattle.theory.specs.CountUp.{countUp, callNumber, callPushes, callLevels}
 use Rattle.theory.specs.Rewrite.{rewriteNumber, rewritePushes}
-use Rattle.theory.specs.Prefix.{prefixes, prefixAt, prefixNumber, Before, prefixLength, symbolPrefix, symbolOf}
+use Rattle.theory.specs.Prefix.{IsPrefix, prefixes, prefixAt, prefixNumber, prefixLength, symbolPrefix, symbolOf}
 use Rattle.theory.specs.Store.{storePrefix, storeCount, storePushes}
 
--- ranks and permutations of n cells, any n
+-- factorials and falling factorials
+pub record Factorials : Type 0 where
+  -- "20! = 2,432,902,008,176,640,000 fits 64 bits."
+  pub twenty : factorial 20 ≡ 2432902008176640000
+  pub fits : (n : ℕ) → n ≤ 20 → factorial n < 2 ^ 64
+  pub quotient : (n p : ℕ) → p ≤ n → falling n p ≡ factorial n / factorial (n - p)
+
+-- a row of twenty that holds xs, of at most twenty entries
+pub record Padding (xs : List ℕ) : Type 0 where
+  pub long : length (row xs) ≡ 20
+  pub first : take (length xs) (row xs) ≡ xs
+  pub past : (i : ℕ) → length xs ≤ i → getD (row xs) i 0 ≡ 0
+
+-- ranks and permutations of n cells
 pub record Ranking (n : ℕ) : Type 0 where
   -- "Ranks run from 0 to n! - 1"
   pub below : (xs : List ℕ) → rank n xs < factorial n
   pub unrank-rank : (xs : List ℕ) → IsPermutation n xs → unrank n (rank n xs) ≡ xs
   pub rank-unrank : (r : ℕ) → r < factorial n → rank n (unrank n r) ≡ r
   pub unrank-permutation : (r : ℕ) → IsPermutation n (unrank n r)
-  -- "Digits b0 first, n of them, the last always 0"; they determine the rank
+  -- "the circle of cells is read upward and downward by turns": upward from the place above cell n, round to the place below it
+  pub circle : (i : ℕ) (xs : List ℕ) → remaining i xs ≡ reverse (drop i xs ++ take (i - 1) xs)
+  -- "Digits b0 first, n of them, the last always 0", each "from 0 to n - 1" for its n; they determine the rank
   pub digits-long : (xs : List ℕ) → length (digits n xs) ≡ n
+  pub digits-range : (xs : List ℕ) (i : ℕ) → i < n → getD (digits n xs) i 0 < n - i
   pub digits-last : (xs : List ℕ) → getD (digits n xs) (n - 1) 0 ≡ 0
   pub digits-rank : (xs : List ℕ) → digitValue n (digits n xs) ≡ rank n xs
 
--- a step of n cells, n at least 2
+-- a step of n cells
 pub record Stepping (n : ℕ) : Type 0 where
   pub place : (xs : List ℕ) → (2 ≤ successor n xs) × (successor n xs ≤ n)
   pub push-permutation : (i : ℕ) (xs : List ℕ) → 1 ≤ i → i ≤ n → IsPermutation n xs → IsPermutation n (push i xs)
   pub step-permutation : (xs : List ℕ) → IsPermutation n xs → IsPermutation n (step n xs)
   pub step-rank : (xs : List ℕ) → IsPermutation n xs → rank n (step n xs) ≡ (rank n xs + 1) % factorial n
 
--- the permutation of levels without a tie, of any number of cells
+-- the permutation of levels without a tie
 pub record Reading (L : List ℕ) : Type 0 where
   -- it is the only one along which the levels strictly fall
   pub reads : ReadsAs L (permutationOf L)
   pub only : (xs : List ℕ) → ReadsAs L xs → permutationOf L ≡ xs
+  -- "Top and bottom are the highest and lowest level"
+  pub top-highest : 1 ≤ length L → level L (top (permutationOf L)) ≡ highest L
+  pub bottom-lowest : 1 ≤ length L → level L (cellAt (length L) (permutationOf L)) ≡ lowest L
+  -- "that cell's level becomes the old top level plus 1 and no other changes"
+  pub push-level : (c : ℕ) → 1 ≤ c → c ≤ length L → level (pushLevel c L) c ≡ highest L + 1
+  pub push-others : (c d : ℕ) → 1 ≤ c → 1 ≤ d → (d ≡ c → ⊥) → level (pushLevel c L) d ≡ level L d
+  pub push-length : (c : ℕ) → length (pushLevel c L) ≡ length L
+  -- "a push raises a cell by its new level less its old"
+  pub push-jump : (c : ℕ) → 1 ≤ c → c ≤ length L → level L c + jump c L ≡ level (pushLevel c L) c
   -- a push on the levels is the push of the permutation; the highest level rises by one, and no tie comes up
   pub push-read :
       (i : ℕ) → 1 ≤ i → i ≤ length L → permutationOf (pushLevel (cellAt i (permutationOf L)) L) ≡ push i (permutationOf L)
@@ -53,26 +81,21 @@ pub record Reading (L : List ℕ) : Type 0 where
       (cs : List ℕ) → ((c : ℕ) → member c cs ≡ true → (1 ≤ c) × (c ≤ length L))
       → highest (pushLevels cs L) ≡ highest L + length cs
 
--- rewriting a permutation of n cells, n at least 1, to another
+-- rewriting a permutation of n cells to a target permutation
 pub record Rewriting (n : ℕ) (xs target : List ℕ) : Type 0 where
   pub reaches : pushCells (rewritePushes xs target) xs ≡ target
   pub many : length (rewritePushes xs target) ≡ rewriteNumber xs target
-  -- each of them is a push at a place 2 to n
+  -- each of them is a push of a cell, at a place 2 to n
+  pub cells : (c : ℕ) → member c (rewritePushes xs target) ≡ true → (1 ≤ c) × (c ≤ n)
   pub places : Places n (cellPlaces (rewritePushes xs target) xs)
   pub at-most : rewriteNumber xs target ≤ n - 1
   -- no shorter row of pushes gives the target
   pub fewest : (is : List ℕ) → Places n is → pushes is xs ≡ target → rewriteNumber xs target ≤ length is
 
--- p of the names 1 to n, none of them twice
-pub record IsPrefix (n p : ℕ) (q : List ℕ) : Type 0 where
-  pub long : length q ≡ p
-  pub distinct : repeats q ≡ false
-  pub named : (c : ℕ) → member c q ≡ true → (1 ≤ c) × (c ≤ n)
-
--- the enumeration of the prefixes of length p of n cells, p at most n
+-- the enumeration of the prefixes of length p of n cells
 pub record Numbering (n p : ℕ) : Type 0 where
   pub many : length (prefixes p (names n)) ≡ factorial n / factorial (n - p)
-  pub lexicographic : (s t : ℕ) → s < t → t < length (prefixes p (names n)) → Before (prefixAt n p s) (prefixAt n p t)
+  pub lexicographic : (s t : ℕ) → s < t → t < length (prefixes p (names n)) → Lexᴰ _<_ (prefixAt n p s) (prefixAt n p t)
   pub prefix : (s : ℕ) → s < length (prefixes p (names n)) → IsPrefix n p (prefixAt n p s)
   -- the number of a prefix undoes the enumeration, and the other way round; what follows the prefix in xs plays no part
   pub number-prefix :
@@ -81,11 +104,15 @@ pub record Numbering (n p : ℕ) : Type 0 where
       (xs : List ℕ) → IsPrefix n p (take p xs)
       → (prefixNumber n p xs < length (prefixes p (names n))) × (prefixAt n p (prefixNumber n p xs) ≡ take p xs)
 
--- a code of m symbols, 1 to n!, on n cells
+-- a code of m symbols on n cells
 pub record Coding (n m : ℕ) : Type 0 where
   pub at-most : prefixLength n m ≤ n
   pub enough : m ≤ factorial n / factorial (n - prefixLength n m)
   pub least : (p : ℕ) → p < prefixLength n m → factorial n / factorial (n - p) < m
+  -- every permutation is led by the prefix whose number is read from it: "Reading gives the symbol whose prefix leads the order."
+  pub reads :
+      (xs : List ℕ) → IsPermutation n xs
+      → (symbolOf n m xs < factorial n / factorial (n - prefixLength n m)) × (symbolPrefix n m (symbolOf n m xs) ≡ take (prefixLength n m) xs)
   -- "With m = 1, p is 0"
   pub one : m ≡ 1 → prefixLength n m ≡ 0
 
@@ -93,11 +120,27 @@ pub record Coding (n m : ℕ) : Type 0 where
 pub record Storing (n m s : ℕ) (xs : List ℕ) : Type 0 where
   -- the prefix, and below it the other cells in their old sequence
   pub reaches : storePrefix (symbolPrefix n m s) xs ≡ symbolPrefix n m s ++ without (symbolPrefix n m s) xs
-  -- by the pushes that it says, each at a place 2 to n; the count is theirs
+  -- by the pushes that it says, each of a cell, at a place 2 to n; the count is theirs
   pub pushed : pushCells (storePushes (symbolPrefix n m s) xs) xs ≡ storePrefix (symbolPrefix n m s) xs
+  pub cells : (c : ℕ) → member c (storePushes (symbolPrefix n m s) xs) ≡ true → (1 ≤ c) × (c ≤ n)
   pub places : Places n (cellPlaces (storePushes (symbolPrefix n m s) xs) xs)
   pub counted : storeCount (symbolPrefix n m s) xs ≡ length (storePushes (symbolPrefix n m s) xs)
+  -- only the prefix's last cell, which is handled first, can be on top then and be passed over
+  pub passed :
+      1 ≤ prefixLength n m
+      → storeCount (symbolPrefix n m s) xs + cond (eqb (top xs) (cellAt (prefixLength n m) (symbolPrefix n m s))) 1 0 ≡ prefixLength n m
   -- "With m = 1 [..] no push is done."
   pub one : m ≡ 1 → storeCount (symbolPrefix n m s) xs ≡ 0
   -- what was stored is read
   pub read : symbolOf n m (storePrefix (symbolPrefix n m s) xs) ≡ s
+
+-- the answer of a count-up call with k on any levels
+pub record Calling (k : ℕ) (L : List ℕ) : Type 0 where
+  -- "Where several hold, the lowest number is given"
+  pub size : sized (length L) ≡ false → callNumber k L ≡ 1
+  pub tie : sized (length L) ≡ true → tied L ≡ true → callNumber k L ≡ 4
+  pub ceiling : sized (length L) ≡ true → tied L ≡ false → 65535 < highest L + k → callNumber k L ≡ 6
+  pub done : sized (length L) ≡ true → tied L ≡ false → highest L + k ≤ 65535 → callNumber k L ≡ 0
+  -- done, it gives k pushes and the levels of k steps; refused, 0 pushes "and no change in any lent list"
+  pub counted : callNumber k L ≡ 0 → (callPushes k L ≡ k) × (callLevels k L ≡ countUp k L)
+  pub unchanged : (callNumber k L ≡ 0 → ⊥) → (callPushes k L ≡ 0) × (callLevels k L ≡ L)

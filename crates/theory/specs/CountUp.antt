@@ -22,7 +22,7 @@ countUp (suc k) L = countUp k (pushLevel (nextCell L) L)
 unfoldable pub callNumber : ℕ → List ℕ → ℕ
 callNumber k L = cond (sized (length L)) (cond (tied L) tie (cond (leb (highest L + k) maxLevel) done ceiling)) size
 
--- "Otherwise it gives number 6 and 0 pushes, and the list stays as it was."
+-- "Otherwise it gives number 6 and 0 pushes, and the list stays as it was." So it is of size and tie
 unfoldable pub callPushes : ℕ → List ℕ → ℕ
 callPushes k L = cond (eqb (callNumber k L) done) k 0
 

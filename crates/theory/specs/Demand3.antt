@@ -4,7 +4,6 @@ use mathlib.Core.Bool.{false}
 use mathlib.Core.List.{List, [], _∷_, _++_}
 use Prim.Native.Nat.{ℕ, suc, _+_, _-_, _%_, _≤_, _<_}
 use lib.ListN.{length}
-use Rattle.theory.specs.Reasons.{done, ceiling, maxLevel}
 use Rattle.theory.specs.Factorial.{factorial}
 use Rattle.theory.specs.Permutation.{IsPermutation, top}
 use Rattle.theory.specs.Rank.{rank}
@@ -14,18 +13,19 @@ use Rattle.theory.specs.Run.{steps, pushCount, stepLevels, afterCalls, c
 
 -- "On levels the start is any lent list of 2 to 20 levels without a tie."
 pub record Start (n : ℕ) (L : List ℕ) : Type 0 where
+  pub few : n ≤ 20
   pub long : length L ≡ n
   pub untied : tied L ≡ false
 
 -- a call with k that is done: number 0 and k pushes, on the levels that k steps leave
 pub record Done (k : ℕ) (L : List ℕ) : Type 0 where
-  pub number : callNumber k L ≡ done
+  pub number : callNumber k L ≡ 0
   pub pushes : callPushes k L ≡ k
   pub levels : callLevels k L ≡ countUp k L
 
 -- a call with k that is refused: number 6 and 0 pushes, "and the list stays as it was"
 pub record Refused (k : ℕ) (L : List ℕ) : Type 0 where
-  pub number : callNumber k L ≡ ceiling
+  pub number : callNumber k L ≡ 6
   pub pushes : callPushes k L ≡ 0
   pub levels : callLevels k L ≡ L
 
@@ -54,9 +54,10 @@ pub record Demand3 (n : ℕ) : Type 0 where
       (L : List ℕ) → Start n L → (ks : List ℕ)
       → rank n (permutationOf (afterCalls ks L)) ≡ (rank n (permutationOf L) + stepsDone ks L) % factorial n
   -- "A call with k is done [..] exactly when the top standing then plus k is at most 65,535." ks are the calls before it
-  pub call-done : (L : List ℕ) → Start n L → (ks : List ℕ) (k : ℕ) → highest (afterCalls ks L) + k ≤ maxLevel → Done k (afterCalls ks L)
+  pub call-done : (L : List ℕ) → Start n L → (ks : List ℕ) (k : ℕ) → highest (afterCalls ks L) + k ≤ 65535 → Done k (afterCalls ks L)
   pub call-refused :
-      (L : List ℕ) → Start n L → (ks : List ℕ) (k : ℕ) → maxLevel < highest (afterCalls ks L) + k → Refused k (afterCalls ks L)
+      (L : List ℕ) → Start n L → (ks : List ℕ) (k : ℕ) → 65535 < highest (afterCalls ks L) + k → Refused k (afterCalls ks L)
+  -- the number of each call in a list is its number on the levels that the calls before it left
   pub call-number :
       (L : List ℕ) → (ks : List ℕ) (k : ℕ) (later : List ℕ)
       → callNumbers (ks ++ k ∷ later) L ≡ callNumbers ks L ++ callNumber k (afterCalls ks L) ∷ callNumbers later (afterCalls (ks ++ k ∷ []) L)
@@ -66,8 +67,8 @@ pub record Demand3 (n : ℕ) : Type 0 where
       → countUp j (afterCalls ks L) ≡ stepLevels n (stepsDone ks L + j) (permutationOf L) L
   -- From levels without a gap, after every step: top less bottom is at most n; and no push raises a cell by more than n + 1
   pub gap :
-      (L : List ℕ) → Start n L → Gapless L → (k : ℕ)
+      (L : List ℕ) → length L ≡ n → Gapless L → (k : ℕ)
       → highest (stepLevels n k (permutationOf L) L) - lowest (stepLevels n k (permutationOf L) L) ≤ n
   pub jumps :
-      (L : List ℕ) → Start n L → Gapless L → (k : ℕ)
+      (L : List ℕ) → length L ≡ n → Gapless L → (k : ℕ)
       → jump (top (steps n (suc k) (permutationOf L))) (stepLevels n k (permutationOf L) L) ≤ n + 1

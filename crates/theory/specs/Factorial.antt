@@ -6,7 +6,7 @@ abbrev pub factorial : ℕ → ℕ
 factorial zero = 1
 factorial (suc m) = suc m * factorial m
 
--- the falling factorial n (n - 1) .. (n - k + 1); it is n!/(n - k)! where k is at most n, and 0 past that
+-- the falling factorial n (n - 1) .. (n - k + 1): where k is at most n it is document 01's n!/(n-k)!, and past that 0
 abbrev pub falling : ℕ → ℕ → ℕ
 falling n zero = 1
 falling n (suc k) = n * falling (n - 1) k

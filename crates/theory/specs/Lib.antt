@@ -16,3 +16,4 @@ pub mod Store
 pub mod Claims
 pub mod Demand3
 pub mod Readings
+pub mod Theory

@@ -12,7 +12,7 @@ pub record IsPermutation (n : ℕ) (xs : List ℕ) : Type 0 where
   pub long : length xs ≡ n
   pub once : (c : ℕ) → 1 ≤ c → c ≤ n → count c xs ≡ 1
 
--- "a row of twenty cell names [..]; all places past n hold 0"
+-- "a row of twenty cell names"; "all places past n hold 0". Digits stand in such a row too, "with 0 past n"
 abbrev pub row : List ℕ → List ℕ
 row xs = xs ++ replicate (20 - length xs) 0
 
@@ -23,7 +23,7 @@ cellAt i xs = getD xs (i - 1) 0
 abbrev pub top : List ℕ → ℕ
 top xs = cellAt 1 xs
 
--- the place of cell c
+-- the place of cell c, or one past the end where it stands nowhere
 unfoldable pub placeOf : ℕ → List ℕ → ℕ
 placeOf c [] = 1
 placeOf c (x ∷ xs) = cond (eqb x c) 1 (suc (placeOf c xs))

@@ -1,13 +1,19 @@
 -- Prefixes of permutations in lexicographic sequence, and the symbols that they stand for. Assumes nothing.
 use mathlib.Core.Path.{_≡_}
-use mathlib.Core.Logic.{_⊎_}
+use mathlib.Core.Bool.{true, false}
 use mathlib.Core.List.{List, [], _∷_, map, flatMap}
-use Prim.Native.Nat.{ℕ, zero, suc, _-_, _/_, _<_}
+use Prim.Native.Nat.{ℕ, zero, suc, _-_, _/_, _≤_}
 use lib.Dec.{leb}
 use lib.ListN.{length, getD}
-use Rattle.theory.specs.Lists.{without, begins, names}
+use Rattle.theory.specs.Lists.{member, repeats, without, begins, names}
 use Rattle.theory.specs.Least.{least}
 use Rattle.theory.specs.Factorial.{factorial}
+
+-- a prefix of length p: p of the names 1 to n, none of them twice
+pub record IsPrefix (n p : ℕ) (q : List ℕ) : Type 0 where
+  pub long : length q ≡ p
+  pub distinct : repeats q ≡ false
+  pub named : (c : ℕ) → member c q ≡ true → (1 ≤ c) × (c ≤ n)
 
 -- all prefixes of length p over the names of `free`, which ascend: each name in turn, followed by each prefix over the names that then are left
 unfoldable pub prefixes : ℕ → List ℕ → List (List ℕ)
@@ -19,15 +25,9 @@ prefixes (suc p) free = flatMap (λ c. map (λ q. c ∷ q) (prefixes p (without 
 unfoldable pub prefixAt : ℕ → ℕ → ℕ → List ℕ
 prefixAt n p s = getD (prefixes p (names n)) s []
 
--- the number of the prefix of length p that leads xs
+-- the number of the prefix of length p that leads xs; where none does, how many there are
 unfoldable pub prefixNumber : ℕ → ℕ → List ℕ → ℕ
 prefixNumber n p xs = least (λ s. begins (prefixAt n p s) xs) (length (prefixes p (names n)))
-
--- p comes before q lexicographically
-abbrev pub Before : List ℕ → List ℕ → Type 0
-Before p [] = ⊥
-Before [] (d ∷ q) = Unit {0}
-Before (c ∷ p) (d ∷ q) = (c < d) ⊎ ((c ≡ d) × Before p q)
 
 -- "prefixes of length p, the smallest p with n!/(n-p)! at least m"
 unfoldable pub prefixLength : ℕ → ℕ → ℕ

@@ -12,7 +12,7 @@ digit n i = (i + n - 2) % n
 unfoldable pub remaining : ℕ → List ℕ → List ℕ
 remaining i xs = reverse (take (i - 1) xs) ++ reverse (drop i xs)
 
--- "Let cell n stand at place i. [..] Rank = digit + n × rank of the remaining order"
+-- "Let cell n stand at place i. [..] Rank = digit + n × rank of the remaining order; one cell has rank 0", which the rule gives it from no cells
 unfoldable pub rank : ℕ → List ℕ → ℕ
 rank zero xs = 0
 rank (suc m) xs = digit (suc m) (placeOf (suc m) xs) + suc m * rank m (remaining (placeOf (suc m) xs) xs)

@@ -8,7 +8,7 @@ use Rattle.theory.specs.Unrank.{unrank}
 use Rattle.theory.specs.Rewrite.{rewritePushes}
 use Rattle.theory.specs.Prefix.{prefixAt, prefixNumber, prefixLength}
 
--- xs has rank r, and r is the rank of xs
+-- xs has rank r, and the permutation of rank r is xs
 abbrev pub HasRank : ℕ → List ℕ → ℕ → Type 0
 HasRank n xs r = (rank n xs ≡ r) × (unrank n r ≡ xs)
 

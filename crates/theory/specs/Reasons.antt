@@ -7,36 +7,42 @@ use lib.Dec.{leb}
 abbrev pub done : ℕ
 done = 0
 
+-- "n is below 2 or above 20, for the group first, then for a target"
 abbrev pub size : ℕ
 size = 1
 
+-- "target's n differs from the group's, or a push list has fewer than n - 1 bytes"
 abbrev pub fit : ℕ
 fit = 2
 
--- an order record is not a permutation
+-- "an order record is not as described above"
 abbrev pub muddle : ℕ
 muddle = 3
 
+-- "two levels are equal"
 abbrev pub tie : ℕ
 tie = 4
 
+-- "rank at or above n!; push place outside 2 to n; m outside 1 to n!; symbol at or above m"
 abbrev pub value : ℕ
 value = 5
 
+-- "top level plus the job's pushes exceeds 65,535"
 abbrev pub ceiling : ℕ
 ceiling = 6
 
--- the stored prefix belongs to no symbol
+-- "reading: the order's prefix has number m or higher"
 abbrev pub idle : ℕ
 idle = 7
 
+-- "the bench sheet is ill-formed"
 abbrev pub sheet : ℕ
 sheet = 8
 
--- size: "n is below 2 or above 20"
+-- "A group has n cells, 2 to 20"; any other n is size
 abbrev pub sized : ℕ → Bool
 sized n = leb 2 n && leb n 20
 
--- ceiling: "top level plus the job's pushes exceeds 65,535"
+-- "16-bit charge levels [..] each 0 to 65,535"
 abbrev pub maxLevel : ℕ
 maxLevel = 65535

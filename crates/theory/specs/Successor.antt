@@ -11,7 +11,8 @@ use Rattle.theory.specs.Push.{push}
 unfoldable pub smaller : List ℕ → List ℕ
 smaller xs = reverse (drop 1 xs)
 
--- "Next step of an order, as the place to push: 2 if n = 2. Otherwise n if cell n is not on top. Otherwise n + 1 less the successor of the smaller order"
+-- "Next step of an order, as the place to push: 2 if n = 2. Otherwise n if cell n is not on top. Otherwise n + 1 less the successor of the smaller order".
+-- Below n = 2, where no group is, it is 2 as well
 unfoldable pub successor : ℕ → List ℕ → ℕ
 successor zero xs = 2
 successor (suc m) xs = cond (leb (suc m) 2) 2 (cond (eqb (top xs) (suc m)) (suc m + 1 - successor m (smaller xs)) (suc m))

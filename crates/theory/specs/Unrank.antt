@@ -13,6 +13,7 @@ placeOfDigit n d = cond (eqb d (n - 1)) 1 (d + 2)
 unfoldable pub insertAt : ℕ → ℕ → List ℕ → List ℕ
 insertAt n i q = reverse (take (i - 1) q) ++ n ∷ reverse (drop (i - 1) q)
 
+-- "order of a rank": cell n stands where the digit r % n puts it, and the others as r / n says
 unfoldable pub unrank : ℕ → ℕ → List ℕ
 unrank zero r = []
 unrank (suc m) r = insertAt (suc m) (placeOfDigit (suc m) (r % suc m)) (unrank m (r / suc m))

@@ -1,0 +1,29 @@
+-- All claims hold. Assumes nothing.
+use Rattle.theory.specs.Theory.{Theory}
+use Rattle.theory.proofs.Factorials.{factorials}
+use Rattle.theory.proofs.Padding.{padding}
+use Rattle.theory.proofs.Ranking.{ranking}
+use Rattle.theory.proofs.Stepping.{stepping}
+use Rattle.theory.proofs.Reading.{reading}
+use Rattle.theory.proofs.Rewriting.{rewriting}
+use Rattle.theory.proofs.Prefixes.{numbering, coding}
+use Rattle.theory.proofs.Storing.{storing}
+use Rattle.theory.proofs.Calls.{calling}
+use Rattle.theory.proofs.Demand3.{demand3}
+use Rattle.theory.proofs.Readings.{readings}
+
+pub theory : Theory
+theory = record {
+  factorials = factorials;
+  padding = padding;
+  ranking = ranking;
+  stepping = stepping;
+  reading = reading;
+  rewriting = rewriting;
+  numbering = numbering;
+  coding = coding;
+  storing = storing;
+  calling = calling;
+  demand3 = demand3;
+  readings = readings;
+}
