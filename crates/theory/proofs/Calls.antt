@@ -5,8 +5,8 @@ use mathlib.Core.List.{List, [], _∷_, _++_}
 use Prim.Native.Nat.{ℕ, _+_, _≤_, _<_}
 use native.Mathlib.Omega.{arith}
 use borrow.Author.Tests.{le-leb, lt-leb, ne-eqb}
+use lib.Dec.{leb}
 use lib.ListN.{length}
-use Rattle.theory.specs.Reasons.{sized}
 use Rattle.theory.specs.Levels.{highest, ReadsAs, tied}
 use Rattle.theory.specs.CountUp.{callNumber, callPushes, callLevels}
 use Rattle.theory.specs.Run.{steps, stepLevels, afterCalls, callNumbers, stepsDone}
@@ -16,32 +16,33 @@ use Rattle.theory.proofs.Cases.{by-le}
 use Rattle.theory.proofs.Sorting.{reads-untied}
 use Rattle.theory.proofs.LevelRun.{run-length, run-reads, stepLevels-add, countUp-run}
 
-pub sized-true : (n : ℕ) → 2 ≤ n → n ≤ 20 → sized n ≡ true
-sized-true n low high = rw (le-leb 2 n low, le-leb n 20 high)
-
 -- ---- one call
 
 pub calling : (k : ℕ) (L : List ℕ) → Calling k L
 unfolding callNumber callPushes callLevels
 calling k L = record {
-  size = λ s. rw s;
-  tie = λ s t. rw (s, t);
-  ceiling = λ s t h. rw (s, t, lt-leb);
-  done = λ s t h. rw (s, t, le-leb);
+  too-few = λ h. rw (lt-leb 2 (length L) h);
+  too-many = λ h.
+      let low : leb 2 (length L) ≡ true = le-leb 2 (length L) (omega arith) in
+      let high : leb (length L) 20 ≡ false = lt-leb (length L) 20 h in
+      rw (low, high);
+  tie = λ low high t. rw (le-leb 2 (length L) low, le-leb (length L) 20 high, t);
+  ceiling = λ low high t h. rw (le-leb 2 (length L) low, le-leb (length L) 20 high, t, lt-leb);
+  done = λ low high t h. rw (le-leb 2 (length L) low, le-leb (length L) 20 high, t, le-leb);
   counted = λ e. rw e (refl, refl);
   unchanged = λ ne. rw (ne-eqb (callNumber k L) 0 ne) (refl, refl);
 }
 
-module _ (k : ℕ) (L : List ℕ) (fits : sized (length L) ≡ true) (untied : tied L ≡ false) where
+module _ (k : ℕ) (L : List ℕ) (low : 2 ≤ length L) (high : length L ≤ 20) (untied : tied L ≡ false) where
   pub call-done : highest L + k ≤ 65535 → Done k L
   call-done h =
-      let number : callNumber k L ≡ 0 = calling k L .done fits untied h in
+      let number : callNumber k L ≡ 0 = calling k L .done low high untied h in
       let answer = calling k L .counted number in
       record { number = number; pushes = answer .0; levels = answer .1 }
 
   pub call-refused : 65535 < highest L + k → Refused k L
   call-refused h =
-      let number : callNumber k L ≡ 6 = calling k L .ceiling fits untied h in
+      let number : callNumber k L ≡ 6 = calling k L .ceiling low high untied h in
       let answer = calling k L .unchanged (λ e. omega arith) in
       record { number = number; pushes = answer .0; levels = answer .1 }
 
@@ -52,17 +53,16 @@ pub calls-run : (n : ℕ) → 2 ≤ n → n ≤ 20 → (ks L xs : List ℕ) → 
 unfolding afterCalls stepsDone stepLevels
 calls-run n low high [] L xs size r = refl
 calls-run n low high (k ∷ ks) L xs size r =
-    let fits : sized (length L) ≡ true = sized-true (length L) (omega arith) (omega arith) in
     by-le (highest L + k) 65535
     (λ h.
-    let d : Done k L = call-done k L fits (reads-untied r) h in
+    let d : Done k L = call-done k L (omega arith) (omega arith) (reads-untied r) h in
     let M : List ℕ = stepLevels n k xs L in
     let here : callLevels k L ≡ M = d .levels ∙ countUp-run n low k L xs size r in
     rw (here, d .pushes)
     (calls-run n low high ks M (steps n k xs) (run-length n low L xs size r k) (run-reads n low L xs size r k)
     ∙ stepLevels-add n k (stepsDone ks M) xs L))
     (λ h.
-    let d : Refused k L = call-refused k L fits (reads-untied r) h in
+    let d : Refused k L = call-refused k L (omega arith) (omega arith) (reads-untied r) h in
     let e : stepsDone ks L ≡ 0 + stepsDone ks L = omega arith in
     rw (d .levels, d .pushes) (calls-run n low high ks L xs size r ∙ ap (λ (i : ℕ). stepLevels n i xs L) e))
 

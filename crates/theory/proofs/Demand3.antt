@@ -1,11 +1,9 @@
 -- Demand 3 holds for every n from 2 on, and of count-up calls for n up to 20. Assumes nothing.
 use mathlib.Core.Path.{_≡_, sym, ap, _∙_, subst}
-use mathlib.Core.Bool.{true}
 use mathlib.Core.List.{List}
 use Prim.Native.Nat.{ℕ, _+_, _≤_}
 use native.Mathlib.Omega.{arith}
 use lib.ListN.{length}
-use Rattle.theory.specs.Reasons.{sized}
 use Rattle.theory.specs.Permutation.{IsPermutation}
 use Rattle.theory.specs.Rank.{rank}
 use Rattle.theory.specs.Levels.{highest, permutationOf, ReadsAs}
@@ -15,7 +13,7 @@ use Rattle.theory.specs.Demand3.{Start, Demand3}
 use Rattle.theory.proofs.Cycle.{run-permutation, run-rank, run-different, run-return, run-balance, run-shares}
 use Rattle.theory.proofs.Sorting.{reads-permutationOf, reads-untied, reads-is}
 use Rattle.theory.proofs.LevelRun.{run-length, run-reads, run-highest, run-gap, run-jump, stepLevels-add, countUp-run}
-use Rattle.theory.proofs.Calls.{sized-true, call-done, call-refused, calls-run, call-number}
+use Rattle.theory.proofs.Calls.{call-done, call-refused, calls-run, call-number}
 
 module _ (n : ℕ) (low : 2 ≤ n) (L : List ℕ) (s : Start n L) where
   xs : List ℕ
@@ -42,9 +40,6 @@ module _ (n : ℕ) (low : 2 ≤ n) (L : List ℕ) (s : Start n L) where
     after-reads : ReadsAs (afterCalls ks L) (steps n K xs)
     after-reads = subst (λ (M : List ℕ). ReadsAs M (steps n K xs)) (sym after) (run-reads n low L xs (s .long) start-reads K)
 
-    after-fits : sized (length (afterCalls ks L)) ≡ true
-    after-fits = sized-true (length (afterCalls ks L)) (omega (arith, after-length)) (omega (arith, after-length, s .few))
-
     after-inside : (j : ℕ) → countUp j (afterCalls ks L) ≡ stepLevels n (K + j) xs L
     after-inside j =
         countUp-run n low j (afterCalls ks L) (steps n K xs) after-length after-reads
@@ -69,9 +64,11 @@ demand3 n low = record {
       ap (rank n) (reads-is (after-reads n low L s ks))
       ∙ run-rank n low (permutationOf L) (start-permutation n low L s) (stepsDone ks L);
   call-done = λ L s ks k.
-      call-done k (afterCalls ks L) (after-fits n low L s ks) (reads-untied (after-reads n low L s ks));
+      let size = after-length n low L s ks in
+      call-done k (afterCalls ks L) (omega arith) (omega (arith, s .few)) (reads-untied (after-reads n low L s ks));
   call-refused = λ L s ks k.
-      call-refused k (afterCalls ks L) (after-fits n low L s ks) (reads-untied (after-reads n low L s ks));
+      let size = after-length n low L s ks in
+      call-refused k (afterCalls ks L) (omega arith) (omega (arith, s .few)) (reads-untied (after-reads n low L s ks));
   call-number = call-number;
   inside = after-inside n low;
   gap = λ L size g. run-gap n low L (permutationOf L) size (reads-permutationOf L (g .untied)) g;

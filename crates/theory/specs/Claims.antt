@@ -5,7 +5,6 @@ use mathlib.Core.List.{List, _++_, reverse, Lexᴰ}
 use Prim.Native.Nat.{ℕ, _+_, _-_, _/_, _%_, _^_, _≤_, _<_}
 use lib.Dec.{eqb}
 use lib.ListN.{length, getD, take, drop}
-use Rattle.theory.specs.Reasons.{sized}
 use Rattle.theory.specs.Lists.{member, without, names}
 use Rattle.theory.specs.Factorial.{factorial, falling}
 use Rattle.theory.specs.Permutation.{IsPermutation, row, cellAt, top}
@@ -95,6 +94,7 @@ pub record Rewriting (n : ℕ) (xs target : List ℕ) : Type 0 where
 -- the enumeration of the prefixes of length p of n cells
 pub record Numbering (n p : ℕ) : Type 0 where
   pub many : length (prefixes p (names n)) ≡ factorial n / factorial (n - p)
+  -- strictly lexicographic, which `Lexᴰ` says of lists for an order of their entries
   pub lexicographic : (s t : ℕ) → s < t → t < length (prefixes p (names n)) → Lexᴰ _<_ (prefixAt n p s) (prefixAt n p t)
   pub prefix : (s : ℕ) → s < length (prefixes p (names n)) → IsPrefix n p (prefixAt n p s)
   -- the number of a prefix undoes the enumeration, and the other way round; what follows the prefix in xs plays no part
@@ -137,10 +137,11 @@ pub record Storing (n m s : ℕ) (xs : List ℕ) : Type 0 where
 -- the answer of a count-up call with k on any levels
 pub record Calling (k : ℕ) (L : List ℕ) : Type 0 where
   -- "Where several hold, the lowest number is given"
-  pub size : sized (length L) ≡ false → callNumber k L ≡ 1
-  pub tie : sized (length L) ≡ true → tied L ≡ true → callNumber k L ≡ 4
-  pub ceiling : sized (length L) ≡ true → tied L ≡ false → 65535 < highest L + k → callNumber k L ≡ 6
-  pub done : sized (length L) ≡ true → tied L ≡ false → highest L + k ≤ 65535 → callNumber k L ≡ 0
+  pub too-few : length L < 2 → callNumber k L ≡ 1
+  pub too-many : 20 < length L → callNumber k L ≡ 1
+  pub tie : 2 ≤ length L → length L ≤ 20 → tied L ≡ true → callNumber k L ≡ 4
+  pub ceiling : 2 ≤ length L → length L ≤ 20 → tied L ≡ false → 65535 < highest L + k → callNumber k L ≡ 6
+  pub done : 2 ≤ length L → length L ≤ 20 → tied L ≡ false → highest L + k ≤ 65535 → callNumber k L ≡ 0
   -- done, it gives k pushes and the levels of k steps; refused, 0 pushes "and no change in any lent list"
   pub counted : callNumber k L ≡ 0 → (callPushes k L ≡ k) × (callLevels k L ≡ countUp k L)
   pub unchanged : (callNumber k L ≡ 0 → ⊥) → (callPushes k L ≡ 0) × (callLevels k L ≡ L)
