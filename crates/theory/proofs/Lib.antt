@@ -3,6 +3,7 @@ pub mod Counts
 pub mod Permutations
 pub mod Members
 pub mod Names
+pub mod Places
 pub mod Least
 pub mod Factorials
 pub mod Padding
@@ -20,7 +21,6 @@ pub mod Gaps
 pub mod LevelRun
 pub mod Calls
 pub mod Demand3
-pub mod Places
 pub mod Rows
 pub mod Sublists
 pub mod Rewriting

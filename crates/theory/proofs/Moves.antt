@@ -7,12 +7,12 @@ use native.Mathlib.Omega.{arith}
 use lib.ListN.{length, getD, take, drop, length-append, length-reverse}
 use lib.Seq.{split-at, length-take-le}
 use Rattle.theory.specs.Lists.{count}
-use Rattle.theory.specs.Permutation.{IsPermutation, top}
+use Rattle.theory.specs.Permutation.{IsPermutation, cellAt, top}
 use Rattle.theory.specs.Successor.{smaller, successor, step}
 use Rattle.theory.proofs.Cases.{by-le}
 use Rattle.theory.proofs.Counts.{delta-eq, count-append}
 use Rattle.theory.proofs.Permutations.{around}
-use Rattle.theory.proofs.Splits.{push-is, successor-low, successor-top, successor-bounds}
+use Rattle.theory.proofs.Splits.{last-split, push-is, successor-low, successor-top, successor-bounds}
 
 -- `Move m xs ys`: the step from xs gives ys
 pub data Move (m : ℕ) (xs ys : List ℕ) : Type 0 where
@@ -24,13 +24,6 @@ pub data Move (m : ℕ) (xs ys : List ℕ) : Type 0 where
   -- it is on top, and lets one cell x pass; the remaining permutation takes a step of its own, if it has two cells or more
   turn : (u v : List ℕ) (x : ℕ) → xs ≡ suc m ∷ (u ++ x ∷ v) → ys ≡ x ∷ suc m ∷ (u ++ v) → (x ≡ suc m → ⊥)
       → (m ≡ 1) ⊎ ((2 ≤ m) × (x ∷ (reverse v ++ reverse u) ≡ step m (reverse (u ++ x ∷ v)))) → Move m xs ys
-
--- a list that is not empty, split at its end
-ends : (x : ℕ) (xs : List ℕ) → (v : List ℕ) × (y : ℕ) × (x ∷ xs ≡ v ++ y ∷ [])
-ends x [] = ([], x, refl)
-ends x (z ∷ xs) =
-    let r = ends z xs in
-    (x ∷ r .0, r .1, ap (λ (l : List ℕ). x ∷ l) (r .2))
 
 pub reverse-split : (u : List ℕ) (x : ℕ) (v : List ℕ) → reverse (u ++ x ∷ v) ≡ reverse v ++ x ∷ reverse u
 reverse-split u x v =
@@ -50,18 +43,19 @@ low m xs pos a u [] e hu hv sizes =
     ∙ ap (λ (l : List ℕ). suc m ∷ a ∷ l) (append-nil u))
     (omega arith) hu
 low m xs pos a u (b ∷ v) e hu hv sizes =
-    let r = ends b v in
-    let w = r .0 in
-    let y = r .1 in
-    let e′ : xs ≡ (a ∷ u) ++ suc m ∷ (w ++ y ∷ []) = e ∙ ap (λ (l : List ℕ). (a ∷ u) ++ suc m ∷ l) (r .2) in
+    let n : ℕ = suc (length v) in
+    let w : List ℕ = take (n - 1) (b ∷ v) in
+    let y : ℕ = cellAt n (b ∷ v) in
+    let parts : b ∷ v ≡ w ++ y ∷ [] = last-split n (b ∷ v) (omega arith) refl in
+    let e′ : xs ≡ (a ∷ u) ++ suc m ∷ (w ++ y ∷ []) = e ∙ ap (λ (l : List ℕ). (a ∷ u) ++ suc m ∷ l) parts in
     let k = low-place m xs pos a (u ++ suc m ∷ b ∷ v) e (omega arith) in
     let t = (a ∷ u) ++ suc m ∷ w in
     shift (a ∷ u) w y e′
     (push-is y t [] (e′ ∙ sym (append-assoc (a ∷ u) (suc m ∷ w) (y ∷ [])))
-    (k ∙ omega (arith, sizes, length-append u (suc m ∷ w), ap length (r .2), length-append w (y ∷ [])))
+    (k ∙ omega (arith, sizes, length-append u (suc m ∷ w), ap length parts, length-append w (y ∷ [])))
     ∙ ap (λ (l : List ℕ). y ∷ l) (append-nil t))
     (omega arith) (omega arith) hu
-    (λ q. omega (arith, hv, ap (count (suc m)) (r .2), count-append (suc m) w (y ∷ []), delta-eq y (suc m) q))
+    (λ q. omega (arith, hv, ap (count (suc m)) parts, count-append (suc m) w (y ∷ []), delta-eq y (suc m) q))
 
 -- ---- the largest cell is on top, and s is the place that the remaining permutation's step pushes
 

@@ -19,9 +19,9 @@ zeros-past (x ∷ xs) n (suc i) h = zeros-past xs n i (omega arith)
 
 pub padding : (xs : List ℕ) → length xs ≤ 20 → Padding xs
 padding xs h =
-    let zeros : List ℕ = replicate (20 - length xs) 0 in
+    let rest : List ℕ = replicate (20 - length xs) 0 in
     record {
-      long = length-append xs zeros ∙ omega (arith, length-replicate (20 - length xs) zero);
-      first = take-append-seam xs zeros;
+      long = length-append xs rest ∙ omega (arith, length-replicate (20 - length xs) zero);
+      first = take-append-seam xs rest;
       past = zeros-past xs (20 - length xs);
     }

@@ -6,7 +6,7 @@ use mathlib.Core.List.Sublistᴰ.{Sublistᴰ·cons-cons}
 use Prim.Native.Nat.{ℕ, zero, suc, _-_, _≤_}
 use native.Mathlib.Omega.{arith}
 use lib.Dec.{eqb}
-use lib.ListN.{length, getD, take, drop, take-append-drop, length-reverse, drop-of-length-le}
+use lib.ListN.{length, getD, take, drop, take-append-drop, length-reverse}
 use lib.Seq.{take-suc, drop-cons, drop-length, drop-append-seam, length-take-le}
 use Rattle.theory.specs.Lists.{count, member, without}
 use Rattle.theory.specs.Permutation.{IsPermutation, top}
@@ -19,6 +19,7 @@ use Rattle.theory.proofs.Permutations.{inside}
 use Rattle.theory.proofs.Members.{member-count, Distinct, Same, Among, permutation-distinct, distinct-head, distinct-left, distinct-drop, distinct-apart, member-first, member-append, member-take, member-getD}
 use Rattle.theory.proofs.Names.{permutation-member}
 use Rattle.theory.proofs.Least.{least-holds, least-bound, least-min}
+use Rattle.theory.proofs.Splits.{drop-last}
 use Rattle.theory.proofs.Sublists.{sequence-sublist, skip-sublist, sublist-sequence, without-sublist, sublist-one, without-others}
 use Rattle.theory.proofs.Rows.{upward-split, upward-places, bringAll, bringAll-split, bringAll-length, movedCells, movedCells-length, pushes-bringAll}
 
@@ -114,8 +115,7 @@ module _ (xs t : List ℕ) (dx : Distinct xs) (dt : Distinct t) (same : Same xs 
   rewrite-bound pos =
       let k : ℕ = length t - 1 in
       let c : ℕ = getD t k 0 in
-      let one : drop k t ≡ c ∷ [] =
-      drop-cons t k 0 (omega arith) ∙ ap (λ (l : List ℕ). c ∷ l) (drop-of-length-le t {i = suc k} (omega arith)) in
+      let one : drop k t ≡ c ∷ [] = drop-last (length t) t pos refl in
       rewrite-least xs t k (rw one (sublist-one c xs (same c ∙ member-getD t k (omega arith))))
 
   -- after any row of pushes that gives the target, the cells below the pushed ones stand as they did

@@ -5,11 +5,11 @@ use Prim.Native.Nat.{ℕ, zero, suc, _+_, _-_, _*_, _%_, _≤_, _<_}
 use native.Mathlib.Nat.{mod-lt, mod-eq-of-lt, add-mod-right, mul-le-mul-left}
 use native.Mathlib.Omega.{arith}
 use borrow.Author.Tests.{eq-eqb, ne-eqb, le-leb, lt-leb}
-use lib.ListN.{length, getD, take, drop, length-append}
-use lib.Seq.{append-snoc, take-at, drop-at, getD-at, split-at, length-take-le}
+use lib.ListN.{length, getD, take, drop, length-append, take-append-drop, drop-of-length-le}
+use lib.Seq.{append-snoc, take-at, drop-at, getD-at, split-at, drop-cons, length-take-le}
 use Rattle.theory.specs.Lists.{count}
 use Rattle.theory.specs.Factorial.{factorial}
-use Rattle.theory.specs.Permutation.{top, placeOf}
+use Rattle.theory.specs.Permutation.{cellAt, top, placeOf}
 use Rattle.theory.specs.Push.{push}
 use Rattle.theory.specs.Successor.{smaller, successor}
 use Rattle.theory.specs.Rank.{digit, remaining, rank}
@@ -35,6 +35,14 @@ at i xs low high = record {
   place = omega (arith, length-take-le (i - 1) xs (omega arith));
   is = refl;
 }
+
+-- the last of p entries
+pub drop-last : (p : ℕ) (q : List ℕ) → 1 ≤ p → length q ≡ p → drop (p - 1) q ≡ cellAt p q ∷ []
+drop-last p q pos h =
+    drop-cons q (p - 1) 0 (omega arith) ∙ ap (λ (l : List ℕ). cellAt p q ∷ l) (drop-of-length-le q {i = suc (p - 1)} (omega arith))
+
+pub last-split : (p : ℕ) (q : List ℕ) → 1 ≤ p → length q ≡ p → q ≡ take (p - 1) q ++ cellAt p q ∷ []
+last-split p q pos h = sym (take-append-drop (p - 1) q) ∙ ap (λ (l : List ℕ). take (p - 1) q ++ l) (drop-last p q pos h)
 
 drop-past : (c : ℕ) (u v : List ℕ) (i : ℕ) → i ≡ suc (length u) → drop i (u ++ c ∷ v) ≡ v
 drop-past c u v i h =

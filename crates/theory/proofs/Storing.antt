@@ -1,10 +1,9 @@
 -- Storing a symbol in a permutation: what is left, by which pushes, and that the symbol is read. Assumes nothing.
 use mathlib.Core.Path.{_≡_, ap, _∙_}
 use mathlib.Core.List.{List, [], _∷_, _++_}
-use Prim.Native.Nat.{ℕ, suc, _-_, _≤_, _<_}
+use Prim.Native.Nat.{ℕ, _-_, _≤_, _<_}
 use native.Mathlib.Omega.{arith}
-use lib.ListN.{length, take, drop-of-length-le}
-use lib.Seq.{split-at}
+use lib.ListN.{length, take}
 use Rattle.theory.specs.Lists.{without, names}
 use Rattle.theory.specs.Factorial.{factorial}
 use Rattle.theory.specs.Permutation.{IsPermutation, cellAt}
@@ -13,14 +12,9 @@ use Rattle.theory.specs.Store.{storePrefix, storeCount}
 use Rattle.theory.specs.Claims.{Numbering, Coding, Storing}
 use Rattle.theory.proofs.Members.{Distinct, Among, permutation-distinct}
 use Rattle.theory.proofs.Names.{permutation-member}
+use Rattle.theory.proofs.Splits.{last-split}
 use Rattle.theory.proofs.Passing.{storePushes-pushed, storeCount-pushes, storeCount-most, storePushes-among, storePrefix-split, storeCount-passed, storePushes-places}
 use Rattle.theory.proofs.Prefixes.{prefix-over, numbering, coding}
-
--- a list of p entries, split at its last
-last-split : (p : ℕ) (q : List ℕ) → 1 ≤ p → length q ≡ p → q ≡ take (p - 1) q ++ cellAt p q ∷ []
-last-split p q pos h =
-    split-at q (p - 1) 0 (omega arith)
-    ∙ ap (λ (l : List ℕ). take (p - 1) q ++ cellAt p q ∷ l) (drop-of-length-le q {i = suc (p - 1)} (omega arith))
 
 pub storing : (n m s : ℕ) (xs : List ℕ) → m ≤ factorial n → s < m → IsPermutation n xs → Storing n m s xs
 unfolding symbolPrefix symbolOf
