@@ -21,6 +21,7 @@ pub mod Gaps
 pub mod LevelRun
 pub mod Calls
 pub mod Demand3
+pub mod CallLists
 pub mod Rows
 pub mod Sublists
 pub mod Rewriting

@@ -188,3 +188,7 @@ distinct-without a (x ∷ xs) d =
     by-test (member x a)
     (λ e. rw e rest)
     (λ e. rw e (distinct-cons x (without a xs) (cc (member-without x a xs)) rest))
+
+-- each entry of a permutation is a cell
+pub entry-inside : {n : ℕ} {xs : List ℕ} → IsPermutation n xs → (i : ℕ) → i < length xs → (1 ≤ getD xs i 0) × (getD xs i 0 ≤ n)
+entry-inside {n} {xs} o i h = inside n xs o (getD xs i 0) (member-count (getD xs i 0) xs (member-getD xs i h))

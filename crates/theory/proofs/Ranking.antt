@@ -66,12 +66,12 @@ place-lower : (m d : ℕ) → (d ≡ m → ⊥) → placeOfDigit (suc m) d ≡ d
 unfolding placeOfDigit
 place-lower m d ne = rw (ne-eqb d (suc m - 1) (λ e. ne (omega arith)))
 
-record PlaceFor (m d i : ℕ) : Type 0 where
-  low : 1 ≤ i
-  high : i ≤ suc m
-  has : digit (suc m) i ≡ d
+pub record PlaceFor (m d i : ℕ) : Type 0 where
+  pub low : 1 ≤ i
+  pub high : i ≤ suc m
+  pub has : digit (suc m) i ≡ d
 
-place-for : (m d : ℕ) → d < suc m → PlaceFor m d (placeOfDigit (suc m) d)
+pub place-for : (m d : ℕ) → d < suc m → PlaceFor m d (placeOfDigit (suc m) d)
 place-for m d h =
     by-name d m
     (λ q e. subst (PlaceFor m d) (sym (place-top m d q)) (record { low = omega arith; high = omega arith; has = digit-top m ∙ sym q }))

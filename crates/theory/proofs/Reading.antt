@@ -14,7 +14,7 @@ use Rattle.theory.specs.Claims.{Reading}
 use Rattle.theory.proofs.Cases.{by-name}
 use Rattle.theory.proofs.Counts.{delta-self, delta-ne, count-append, Split, split, adds-top, adds-between}
 use Rattle.theory.proofs.Permutations.{moved, inside, absent-zero}
-use Rattle.theory.proofs.Members.{member-first, member-later, member-getD, member-count}
+use Rattle.theory.proofs.Members.{member-first, member-later, entry-inside}
 use Rattle.theory.proofs.Splits.{at, push-is, place-is}
 use Rattle.theory.proofs.Extremes.{highest≤, ≤lowest, level-suc, level≤highest, lowest≤level}
 use Rattle.theory.proofs.Sorting.{reads-permutationOf, reads-untied, reads-is}
@@ -154,7 +154,7 @@ reads-lowest {L} (x ∷ xs) h r =
     let o = r .permutation in
     let last : length L - 1 ≡ length xs = omega (arith, o .long) in
     let c : ℕ = getD (x ∷ xs) (length xs) 0 in
-    let b = inside (length L) (x ∷ xs) o c (member-count c (x ∷ xs) (member-getD (x ∷ xs) (length xs) (omega arith))) in
+    let b = entry-inside o (length xs) (omega arith) in
     let low : level L c ≤ lowest L =
     ≤lowest L (level L c) h
     (λ i l. omega (arith, level-suc L i, falls-bottom L x xs (r .falls) (suc i) (omega (arith, o .once (suc i) (omega arith) (omega arith))))) in

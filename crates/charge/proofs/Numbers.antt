@@ -1,0 +1,137 @@
+-- The number that a job on levels answers, by the tests that the code makes, and what it answers beside it. Assumes nothing.
+use mathlib.Core.Path.{_≡_, refl, sym, ap₂, _∙_}
+use mathlib.Core.Bool.{true, false}
+use mathlib.Core.List.{List}
+use Prim.Native.Nat.{ℕ, _+_, _≤_, _<_}
+use native.Mathlib.Omega.{arith}
+use borrow.Author.Tests.{le-leb, lt-leb, ne-eqb}
+use lib.Dec.{eqb}
+use lib.ListN.{length}
+use Rattle.theory.specs.Reasons.{done, size, tie, value, ceiling, sized, maxLevel}
+use Rattle.theory.specs.Permutation.{cellAt, row}
+use Rattle.theory.specs.Levels.{highest, tied, permutationOf, pushLevel}
+use Rattle.theory.specs.CountUp.{countUp, callNumber, callLevels}
+use Rattle.theory.proofs.Cases.{by-test, by-le}
+use Rattle.theory.proofs.Sorting.{permutationOf-length}
+use Rattle.theory.proofs.Calls.{calling}
+use Rattle.permutation.specs.declared.answers.Permuted.{Permuted}
+use Rattle.permutation.specs.Answers.{refused}
+use Rattle.permutation.proofs.Answering.{permuted-done, permuted-refused}
+use Rattle.charge.specs.declared.answers.Pushes.{Pushes}
+use Rattle.charge.specs.Answers.{readNumber, reading, placeNumber, placePushes, placeLevels, counted}
+
+-- ---- reading
+
+module _ (L : List ℕ) where
+  pub read-few : length L < 2 → size ≡ readNumber L
+  unfolding readNumber
+  read-few h = rw (lt-leb 2 (length L) h)
+
+  pub read-many : 2 ≤ length L → 20 < length L → size ≡ readNumber L
+  unfolding readNumber
+  read-many few h = rw (le-leb 2 (length L) few, lt-leb (length L) 20 h)
+
+  pub read-tie : 2 ≤ length L → length L ≤ 20 → tied L ≡ true → tie ≡ readNumber L
+  unfolding readNumber
+  read-tie few many t = rw (le-leb 2 (length L) few, le-leb (length L) 20 many, t)
+
+-- levels that have a permutation
+pub record Readable (L : List ℕ) : Type 0 where
+  pub few : 2 ≤ length L
+  pub many : length L ≤ 20
+  pub untied : tied L ≡ false
+
+pub read-done : {L : List ℕ} → Readable L → readNumber L ≡ done
+unfolding readNumber
+read-done {L} r = rw (le-leb 2 (length L) (r .few), le-leb (length L) 20 (r .many), r .untied)
+
+pub readable : {L : List ℕ} → readNumber L ≡ done → Readable L
+readable {L} e =
+    by-le 2 (length L)
+    (λ few. by-le (length L) 20
+    (λ many. by-test (tied L)
+    (λ t. absurd (omega (arith, read-tie L few many t)))
+    (λ t. record { few = few; many = many; untied = t }))
+    (λ h. absurd (omega (arith, read-many L few h))))
+    (λ h. absurd (omega (arith, read-few L h)))
+
+pub read-sorted : {L cells : List ℕ} → Readable L → cells ≡ row (permutationOf L)
+    → _≡_ {A = Permuted} (record { number = 0; permutation = record { n = length L; cells = cells } }) (reading L)
+unfolding reading
+read-sorted {L} r e =
+    permuted-done (readNumber L) (permutationOf L) _ (read-done r)
+    (ap₂ (λ (n : ℕ) (l : List ℕ). record { n = n; cells = l }) (sym (permutationOf-length L)) e)
+
+-- the levels' fault is the number of every job on them
+module _ (L : List ℕ) {number : ℕ} (e : number ≡ readNumber L) (ne : number ≡ 0 → ⊥) where
+  faulty : eqb (readNumber L) 0 ≡ false
+  faulty = ne-eqb (readNumber L) 0 (λ z. ne (e ∙ z))
+
+  pub fault-read : refused number ≡ reading L
+  unfolding reading
+  fault-read = permuted-refused (readNumber L) number (permutationOf L) (sym e) ne
+
+  pub fault-place : (i : ℕ) → number ≡ placeNumber L i
+  unfolding placeNumber
+  fault-place i = rw (faulty, e)
+
+  pub fault-call : (k : ℕ) → number ≡ callNumber k L
+  unfolding readNumber callNumber
+  fault-call k =
+      by-test (sized (length L))
+      (λ s. by-test (tied L) (λ t. e ∙ rw (s, t)) (λ t. absurd (ne (e ∙ rw (s, t)))))
+      (λ s. e ∙ rw s)
+
+-- ---- the push at place i
+
+module _ (L : List ℕ) (i : ℕ) where
+  pub place-refused : {number : ℕ} → number ≡ placeNumber L i → (number ≡ 0 → ⊥)
+      → (_≡_ {A = Pushes} (record { number = number; pushes = 0 }) (placePushes L i)) × (L ≡ placeLevels L i)
+  unfolding placePushes placeLevels
+  place-refused e ne = rw (ne-eqb (placeNumber L i) 0 (λ z. ne (e ∙ z)), e) (refl, refl)
+
+  pub place-pushed : placeNumber L i ≡ done
+      → (_≡_ {A = Pushes} (record { number = 0; pushes = 1 }) (placePushes L i))
+      × (pushLevel (cellAt i (permutationOf L)) L ≡ placeLevels L i)
+  unfolding placePushes placeLevels
+  place-pushed e = rw e (refl, refl)
+
+  module _ (r : Readable L) where
+    pub place-low : i < 2 → value ≡ placeNumber L i
+    unfolding placeNumber
+    place-low h = rw (read-done r, lt-leb 2 i h)
+
+    pub place-high : 2 ≤ i → length L < i → value ≡ placeNumber L i
+    unfolding placeNumber
+    place-high low h = rw (read-done r, le-leb 2 i low, lt-leb i (length L) h)
+
+    module _ (low : 2 ≤ i) (high : i ≤ length L) where
+      pub place-ceiling : maxLevel < highest L + 1 → ceiling ≡ placeNumber L i
+      unfolding placeNumber
+      place-ceiling h = rw (read-done r, le-leb 2 i low, le-leb i (length L) high, lt-leb (highest L + 1) maxLevel h)
+
+      pub place-done : highest L + 1 ≤ maxLevel → placeNumber L i ≡ done
+      unfolding placeNumber
+      place-done h = rw (read-done r, le-leb 2 i low, le-leb i (length L) high, le-leb (highest L + 1) maxLevel h)
+
+-- ---- a call of count up with k
+
+module _ (k : ℕ) (L : List ℕ) where
+  pub call-refused : {number : ℕ} → number ≡ callNumber k L → (number ≡ 0 → ⊥)
+      → (_≡_ {A = Pushes} (record { number = number; pushes = 0 }) (counted L k)) × (L ≡ callLevels k L)
+  unfolding counted
+  call-refused e ne =
+      let answer = calling k L .unchanged (λ z. ne (e ∙ z)) in
+      rw (e, answer .0, answer .1) (refl, refl)
+
+  module _ (r : Readable L) where
+    pub call-ceiling : maxLevel < highest L + k → ceiling ≡ callNumber k L
+    call-ceiling h = sym (calling k L .ceiling (r .few) (r .many) (r .untied) h)
+
+    pub call-done : highest L + k ≤ maxLevel
+        → (_≡_ {A = Pushes} (record { number = 0; pushes = k }) (counted L k)) × (countUp k L ≡ callLevels k L)
+    unfolding counted
+    call-done h =
+        let number = calling k L .done (r .few) (r .many) (r .untied) h in
+        let answer = calling k L .counted number in
+        rw (number, answer .0, answer .1) (refl, refl)

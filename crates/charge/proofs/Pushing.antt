@@ -1,0 +1,29 @@
+-- The cell that stands at a place of the sorted row, and its push on the levels. Assumes nothing.
+use mathlib.Core.Path.{_≡_, ap, _∙_}
+use mathlib.Core.List.{List}
+use Prim.Native.Nat.{ℕ, _+_, _-_, _≤_}
+use native.Mathlib.Omega.{arith}
+use lib.ListN.{length, set, replicate, List·getD-append}
+use Rattle.theory.specs.Permutation.{row, cellAt}
+use Rattle.theory.specs.Levels.{highest, permutationOf, pushLevel}
+use Rattle.theory.proofs.Members.{entry-inside}
+use Rattle.theory.proofs.Sorting.{permutationOf-permutation, permutationOf-length}
+
+-- c is the cell at place i
+pub record StandsAt (L : List ℕ) (i c : ℕ) : Type 0 where
+  pub is : c ≡ cellAt i (permutationOf L)
+  pub low : 1 ≤ c
+  pub high : c ≤ length L
+
+pub stands-at : (L : List ℕ) (i : ℕ) {cells : List ℕ} {c : ℕ} → 1 ≤ i → i ≤ length L → cells ≡ row (permutationOf L) → c ≡ cellAt i cells
+    → StandsAt L i c
+stands-at L i {cells} {c} low high row-is e =
+    let size = permutationOf-length L in
+    let is : c ≡ cellAt i (permutationOf L) =
+    e ∙ ap (cellAt i) row-is ∙ List·getD-append (permutationOf L) (replicate (20 - length (permutationOf L)) 0) 0 (i - 1) (omega arith) in
+    let b = entry-inside (permutationOf-permutation L) (i - 1) (omega arith) in
+    record { is = is; low = rw is (b .0); high = rw is (b .1) }
+
+pub stands-push : {L : List ℕ} {i c t : ℕ} → StandsAt L i c → t ≡ highest L → set L (c - 1) (t + 1) ≡ pushLevel (cellAt i (permutationOf L)) L
+unfolding pushLevel
+stands-push s e = rw (s .is, e)

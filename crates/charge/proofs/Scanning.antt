@@ -1,0 +1,47 @@
+-- One turn of a walk along levels: is a level among those ahead, is there a tie among them, and which is the highest of them? Assumes nothing.
+use mathlib.Core.Path.{_≡_, _∙_}
+use mathlib.Core.Bool.{true, false}
+use mathlib.Core.List.{List, _∷_}
+use Prim.Native.Nat.{ℕ, _+_, _-_, _≤_, _<_}
+use native.Mathlib.Numerals.{add-one}
+use native.Mathlib.Omega.{arith}
+use borrow.Author.Tests.{eq-eqb, ne-eqb}
+use lib.ListN.{length, getD, drop, drop-of-length-le}
+use lib.Seq.{drop-cons}
+use Rattle.theory.specs.Lists.{member}
+use Rattle.theory.specs.Levels.{highest, tied}
+
+module _ (L : List ℕ) (i : ℕ) (h : i < length L) where
+  ahead : drop i L ≡ getD L i 0 ∷ drop (i + 1) L
+  ahead = drop-cons L i 0 h ∙ rw (add-one i)
+
+  pub member-here : (x : ℕ) → x ≡ getD L i 0 → member x (drop i L) ≡ true
+  member-here x e = rw (ahead, eq-eqb x (getD L i 0) e)
+
+  pub member-next : (x : ℕ) → (x ≡ getD L i 0 → ⊥) → member x (drop i L) ≡ member x (drop (i + 1) L)
+  member-next x ne = rw (ahead, ne-eqb x (getD L i 0) ne)
+
+  pub tied-here : member (getD L i 0) (drop (i + 1) L) ≡ true → tied (drop i L) ≡ true
+  tied-here e = rw (ahead, e)
+
+  pub tied-next : member (getD L i 0) (drop (i + 1) L) ≡ false → tied (drop i L) ≡ tied (drop (i + 1) L)
+  tied-next e = rw (ahead, e)
+
+-- no level is ahead
+module _ (L : List ℕ) {i : ℕ} (h : length L ≤ i) where
+  pub member-end : (x : ℕ) → member x (drop i L) ≡ false
+  member-end x = rw (drop-of-length-le L h)
+
+  pub tied-end : tied (drop i L) ≡ false
+  tied-end = rw (drop-of-length-le L h)
+
+-- the highest, from the last level to the first
+module _ (L : List ℕ) (i : ℕ) {t : ℕ} (pos : 0 < i) (h : i ≤ length L) (e : t ≡ highest (drop i L)) where
+  behind : drop (i - 1) L ≡ getD L (i - 1) 0 ∷ drop i L
+  behind = let q : i - 1 + 1 ≡ i = omega arith in ahead L (i - 1) (omega arith) ∙ rw q
+
+  pub highest-here : t < getD L (i - 1) 0 → getD L (i - 1) 0 ≡ highest (drop (i - 1) L)
+  highest-here l = rw behind (omega arith)
+
+  pub highest-next : getD L (i - 1) 0 ≤ t → t ≡ highest (drop (i - 1) L)
+  highest-next l = rw behind (omega arith)

@@ -1,0 +1,31 @@
+-- `charge::read::read` meets its contract: a fault is passed on, and otherwise a row of zeros is sorted. Assumes nothing.
+use mathlib.Core.Path.{refl, sym, _∙_}
+use borrow.Author.Needs.{needs}
+use Rattle.charge.proofs.Sorting.{sorted-row}
+use Rattle.charge.proofs.Numbers.{Readable, readable, read-sorted, fault-read}
+use Rattle.charge.proofs.read.read.Statement.{statement}
+use Rattle.charge.proofs.read.read.Tie as tie
+
+faultless : (c : tie.Else1) → Readable (c .before .before .before .args .levels .now)
+faultless c = readable (sym (c .before .fault .ensures) ∙ c .if1 .left)
+
+fault-requires : tie.Need-fault-requires
+fault-requires c κs = search needs
+
+refuse-requires : tie.Need-refuse-requires
+refuse-requires c κs = search needs
+
+returns : tie.Need-returns
+returns c = c .refuse .ensures ∙ fault-read _ (c .before .before .fault .ensures) (c .before .if1 .taken)
+
+sort-cells-requires : tie.Need-sort-cells-requires
+sort-cells-requires c κs = (faultless (c .before) .many, refl)
+
+returns-2 : tie.Need-returns-2
+returns-2 c =
+    let r = faultless (c .before .before) in
+    read-sorted r (sorted-row _ (r .many) (c .sort-cells .ensures))
+
+pub read-spec : {M : Type 1} → statement M
+read-spec =
+    tie.close (tie.spec fault-requires refuse-requires returns sort-cells-requires returns-2)

@@ -1,0 +1,54 @@
+// Count up: k next steps, each a push on the levels. The permutation is read once and moved along.
+ghost use mathlib.Core.Path.{_≡_};
+ghost use Rattle.theory.specs.CountUp as meaning;
+ghost use Rattle.charge.specs.Answers.{counted};
+ghost use Rattle.charge.specs.Counting.{Ready};
+use super::answers::Pushes;
+use super::judge::fault;
+use super::judge::highest;
+use super::sort::sort_cells;
+use permutation::cell::wide;
+use permutation::push::push_row;
+use permutation::reasons::CEILING;
+use permutation::successor::next_place;
+
+// `cells` is the row of the levels' permutation, and `top` the highest of them.
+fn count_steps(levels: &mut [u16], cells: &mut [u8; 20], top: u16, k: u16)
+    requires { ⌜ Ready (now levels) (now cells) top k ⌝ }
+    ensures { λ _. ⌜ now (levels .exit) ≡ meaning.countUp k (now (levels .entry)) ⌝ }
+{
+    let n = levels.len();
+    let last = top + k;
+    let mut level = top;
+    while level < last {
+        let place = next_place(cells, n);
+        push_row(cells, place);
+        level += 1;
+        let cell = wide(cells[0]);
+        levels[cell - 1] = level;
+    }
+}
+
+pub fn count_up(levels: &mut [u16], k: u32) -> Pushes
+    ensures { λ r. ⌜ r ≡ counted (now (levels .entry)) k ⌝ }
+    ensures { λ _. ⌜ now (levels .exit) ≡ meaning.callLevels k (now (levels .entry)) ⌝ }
+{
+    let number = fault(levels);
+    if number != 0 {
+        return Pushes { number, pushes: 0 };
+    }
+    let top = highest(levels);
+    if 65535 - (top as u32) < k {
+        return Pushes {
+            number: CEILING,
+            pushes: 0,
+        };
+    }
+    let mut cells = [0u8; 20];
+    sort_cells(levels, &mut cells);
+    count_steps(levels, &mut cells, top, k as u16);
+    Pushes {
+        number: 0,
+        pushes: k,
+    }
+}

@@ -1,0 +1,68 @@
+// What a job on levels is judged by, before its first push: size, tie, and the highest level.
+ghost use mathlib.Core.Path.{_≡_};
+ghost use Prim.Native.Nat.{_≤_};
+ghost use lib.ListN.{length, drop};
+ghost use Rattle.theory.specs.Lists.{member};
+ghost use Rattle.theory.specs.Levels as meaning;
+ghost use Rattle.charge.specs.Answers.{readNumber};
+use permutation::reasons::SIZE;
+use permutation::reasons::TIE;
+
+// Is x a level at or after index `from`?
+fn stands_from(levels: &[u16], x: u16, from: usize) -> bool
+    requires { ⌜ from ≤ length (now levels) ⌝ }
+    ensures { λ r. ⌜ r ≡ member x (drop from (now (levels .entry))) ⌝ }
+{
+    let mut i = from;
+    while i < levels.len() {
+        if x == levels[i] {
+            return true;
+        }
+        i += 1;
+    }
+    false
+}
+
+// For other crates too, so that there is one tie test.
+pub fn tied(levels: &[u16]) -> bool
+    ensures { λ r. ⌜ r ≡ meaning.tied (now (levels .entry)) ⌝ }
+{
+    let mut i: usize = 0;
+    while i < levels.len() {
+        if stands_from(levels, levels[i], i + 1) {
+            return true;
+        }
+        i += 1;
+    }
+    false
+}
+
+// SIZE, TIE, or 0 for levels that have a permutation.
+pub fn fault(levels: &[u16]) -> u8
+    ensures { λ r. ⌜ r ≡ readNumber (now (levels .entry)) ⌝ }
+{
+    if levels.len() < 2 {
+        return SIZE;
+    }
+    if 20 < levels.len() {
+        return SIZE;
+    }
+    if tied(levels) {
+        return TIE;
+    }
+    0
+}
+
+pub fn highest(levels: &[u16]) -> u16
+    ensures { λ r. ⌜ r ≡ meaning.highest (now (levels .entry)) ⌝ }
+{
+    let mut top: u16 = 0;
+    let mut i = levels.len();
+    while 0 < i {
+        i -= 1;
+        if top < levels[i] {
+            top = levels[i];
+        }
+    }
+    top
+}

@@ -1,0 +1,8 @@
+// Lent charge levels, entry by cell name: read the permutation, push, count up. Each answer, and the levels at exit, are proved equal to a
+// meaning of `specs/Answers` or of the theory's `CountUp`, for every input.
+pub mod answers; // what a job that pushes answers
+pub mod count_up; // k next steps
+pub mod judge; // size and tie, and the highest level
+pub mod push_level; // one push
+pub mod read; // the permutation of levels
+mod sort; // cells sorted by level

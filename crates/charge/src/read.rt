@@ -1,0 +1,26 @@
+// The permutation of levels.
+ghost use mathlib.Core.Path.{_≡_};
+ghost use Rattle.charge.specs.Answers.{reading};
+use super::judge::fault;
+use super::sort::sort_cells;
+use permutation::answers::Permutation;
+use permutation::answers::Permuted;
+use permutation::answers::refuse;
+
+pub fn read(levels: &[u16]) -> Permuted
+    ensures { λ r. ⌜ r ≡ reading (now (levels .entry)) ⌝ }
+{
+    let number = fault(levels);
+    if number != 0 {
+        return refuse(number);
+    }
+    let mut cells = [0u8; 20];
+    sort_cells(levels, &mut cells);
+    Permuted {
+        number: 0,
+        permutation: Permutation {
+            n: levels.len(),
+            cells,
+        },
+    }
+}

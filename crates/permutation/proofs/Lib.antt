@@ -1,0 +1,13 @@
+-- Laws that the proofs of the functions use.
+pub mod Records
+pub mod Rows
+pub mod Zeros
+pub mod Answering
+pub mod Inserting
+pub mod Reflecting
+pub mod Marks
+pub mod Circle
+pub mod Spots
+pub mod Meeting
+pub mod Values
+pub mod Filling

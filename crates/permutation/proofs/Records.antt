@@ -1,0 +1,126 @@
+-- When a record is refused, and what one has that is not: it is the record of a permutation. Assumes nothing.
+use mathlib.Core.Path.{_≡_, refl, ap, sym, _∙_}
+use mathlib.Core.Bool.{Bool, true, false, cond, _&&_, and-false, false≢true}
+use mathlib.Core.List.{List, [], _∷_, _++_}
+use Prim.Native.Nat.{ℕ, zero, suc, _-_, _≤_, _<_}
+use native.Mathlib.Omega.{arith}
+use borrow.Author.Tests.{eqb-true, eq-eqb, leb-true, le-leb, lt-leb}
+use lib.Dec.{eqb, leb}
+use lib.ListN.{length, drop, replicate, length-drop, take-append-drop}
+use lib.Seq.{length-take-le, take-append-seam, drop-append-seam}
+use Rattle.theory.specs.Reasons.{done, size, muddle, sized}
+use Rattle.theory.specs.Lists.{count}
+use Rattle.theory.specs.Permutation.{IsPermutation, row}
+use Rattle.theory.proofs.Cases.{by-name}
+use Rattle.permutation.specs.Records.{listOf, recordOf, onceEach, allZero, faultOf}
+use Rattle.permutation.specs.Spots.{Checks}
+use Rattle.permutation.specs.declared.answers.Permutation.{Permutation}
+
+-- both of two tests
+both : (a b : Bool) → (a && b) ≡ true → (a ≡ true) × (b ≡ true)
+both true b h = (refl, h)
+both false b h = absurd (false≢true h)
+
+-- ---- each of 1 to n once
+pub once-count : (n : ℕ) (xs : List ℕ) → onceEach n xs ≡ true → (c : ℕ) → 1 ≤ c → c ≤ n → count c xs ≡ 1
+unfolding onceEach
+once-count zero xs h c low high = absurd (omega arith)
+once-count (suc m) xs h c low high =
+    let b = both (eqb (count (suc m) xs) 1) (onceEach m xs) h in
+    by-name c (suc m)
+    (λ q e. ap (λ (k : ℕ). count k xs) q ∙ eqb-true (count (suc m) xs) 1 (b .0))
+    (λ ne e. once-count m xs (b .1) c low (omega (arith, ne)))
+
+pub count-once : (n : ℕ) (xs : List ℕ) → ((c : ℕ) → 1 ≤ c → c ≤ n → count c xs ≡ 1) → onceEach n xs ≡ true
+unfolding onceEach
+count-once zero xs h = refl
+count-once (suc m) xs h =
+    rw (eq-eqb (count (suc m) xs) 1 (h (suc m) (omega arith) (omega arith))) (count-once m xs (λ c low high. h c low (omega arith)))
+
+pub once-permutation : (n : ℕ) (xs : List ℕ) → length xs ≡ n → onceEach n xs ≡ true → IsPermutation n xs
+once-permutation n xs long h = record { long = long; once = once-count n xs h }
+
+permutation-once : (n : ℕ) (xs : List ℕ) → IsPermutation n xs → onceEach n xs ≡ true
+permutation-once n xs o = count-once n xs (o .once)
+
+-- ---- nothing but zeros
+zeros-all : (n : ℕ) → allZero (replicate n 0) ≡ true
+unfolding allZero
+zeros-all zero = refl
+zeros-all (suc n) = zeros-all n
+
+all-zeros : (xs : List ℕ) → allZero xs ≡ true → xs ≡ replicate (length xs) 0
+unfolding allZero
+all-zeros [] h = refl
+all-zeros (x ∷ xs) h =
+    let b = both (eqb x 0) (allZero xs) h in
+    let first : x ≡ 0 = eqb-true x 0 (b .0) in
+    let rest : xs ≡ replicate (length xs) 0 = all-zeros xs (b .1) in
+    cc
+
+-- ---- why a record is refused, by the tests that tell
+module _ (p : Permutation) where
+  pub fault-small : p .n < 2 → size ≡ faultOf p
+  unfolding faultOf
+  fault-small h = rw (lt-leb 2 (p .n) h)
+
+  pub fault-large : 20 < p .n → size ≡ faultOf p
+  unfolding faultOf
+  fault-large h = rw (lt-leb (p .n) 20 h, and-false (leb 2 (p .n)))
+
+  module _ (low : 2 ≤ p .n) (high : p .n ≤ 20) where
+    pub fault-muddle : (onceEach (p .n) (listOf p) && allZero (drop (p .n) (p .cells))) ≡ false → muddle ≡ faultOf p
+    unfolding faultOf
+    fault-muddle e = rw (le-leb 2 (p .n) low, le-leb (p .n) 20 high, e)
+
+    pub fault-none : (onceEach (p .n) (listOf p) && allZero (drop (p .n) (p .cells))) ≡ true → done ≡ faultOf p
+    unfolding faultOf
+    fault-none e = rw (le-leb 2 (p .n) low, le-leb (p .n) 20 high, e)
+
+-- what a record has that is not refused
+pub record Sound (p : Permutation) : Type 0 where
+  pub few : 2 ≤ p .n
+  pub many : p .n ≤ 20
+  pub fault : faultOf p ≡ 0
+  pub permutation : IsPermutation (p .n) (listOf p)
+  pub is : p ≡ recordOf (listOf p)
+
+no-fault : (a b : Bool) → cond a (cond b done muddle) size ≡ 0 → (a ≡ true) × (b ≡ true)
+no-fault true true h = (refl, refl)
+no-fault true false h = absurd (omega arith)
+no-fault false b h = absurd (omega arith)
+
+abbrev made : ℕ → List ℕ → Permutation
+made k l = record { n = k; cells = l }
+
+pub sound : (p : Permutation) → length (p .cells) ≡ 20 → faultOf p ≡ 0 → Sound p
+unfolding faultOf
+sound p long h =
+    let n : ℕ = p .n in
+    let rest : List ℕ = drop n (p .cells) in
+    let f = no-fault (sized n) (onceEach n (listOf p) && allZero rest) h in
+    let s = both (leb 2 n) (leb n 20) (f .0) in
+    let g = both (onceEach n (listOf p)) (allZero rest) (f .1) in
+    let high : n ≤ 20 = leb-true n 20 (s .1) in
+    let names : length (listOf p) ≡ n = length-take-le n (p .cells) (omega arith) in
+    let left : length rest ≡ 20 - length (listOf p) = omega (arith, length-drop n (p .cells)) in
+    let cells : p .cells ≡ row (listOf p) =
+    sym (take-append-drop n (p .cells)) ∙ ap (λ (l : List ℕ). listOf p ++ l) (all-zeros rest (g .1) ∙ rw left) in
+    record {
+      few = leb-true 2 n (s .0);
+      many = high;
+      fault = h;
+      permutation = once-permutation n (listOf p) names (g .0);
+      is = ap (λ (k : ℕ). made k (p .cells)) (sym names) ∙ ap (made (length (listOf p))) cells;
+    }
+
+pub checked : {p : Permutation} {number : ℕ} {spots : List ℕ} → length (p .cells) ≡ 20 → Checks p number spots → number ≡ 0 → Sound p
+checked {p} long c e = sound p long (sym (c .right) ∙ e)
+
+-- the record of a permutation is not refused
+pub fault-record : (n : ℕ) (xs : List ℕ) → 2 ≤ n → n ≤ 20 → IsPermutation n xs → faultOf (recordOf xs) ≡ 0
+fault-record n xs low high o =
+    let rest : List ℕ = replicate (20 - length xs) 0 in
+    let once : onceEach (length xs) xs ≡ true = rw (o .long) (permutation-once n xs o) in
+    sym (fault-none (recordOf xs) (omega arith) (omega arith)
+    (rw (take-append-seam xs rest, drop-append-seam xs rest, once) (zeros-all (20 - length xs))))

@@ -1,0 +1,68 @@
+-- `permutation::push::push` meets its contract. Assumes nothing.
+use mathlib.Core.Path.{_∙_}
+use mathlib.Core.Logic.{inl, inr}
+use Prim.Native.Nat.{_≤_}
+use native.Mathlib.Omega.{arith}
+use Rattle.permutation.proofs.Records.{Sound, checked}
+use Rattle.permutation.proofs.Answering.{push-fault, push-outside, push-done}
+use borrow.Author.Needs.{needs}
+use Rattle.permutation.proofs.push.push.Statement.{statement}
+use Rattle.permutation.proofs.push.push.Tie as tie
+
+check-requires : tie.Need-check-requires
+check-requires c κs = search needs
+
+refuse-requires : tie.Need-refuse-requires
+refuse-requires c κs = search needs
+
+returns : tie.Need-returns
+returns c =
+    let checked = c .before .before in
+    c .refuse .ensures ∙ push-fault (checked .before .args .permutation) (checked .before .args .place) _ (checked .check .ensures .right) (c .before .if1 .taken)
+
+-- past the first test, the record is a permutation's
+sound-now : (c : tie.Else1) → Sound (c .before .before .args .permutation)
+sound-now c = checked (search needs) (c .before .check .ensures) (c .if1 .left)
+
+refuse-requires-2 : tie.Need-refuse-requires-2
+refuse-requires-2 c κs = search needs
+
+returns-2 : tie.Need-returns-2
+returns-2 c =
+    let at = c .before .before in
+    c .refuse2 .ensures ∙ push-outside (at .before .before .args .permutation) (at .before .before .args .place) (sound-now at .fault) (inl (c .before .if2 .taken))
+
+refuse-requires-3 : tie.Need-refuse-requires-3
+refuse-requires-3 c κs = search needs
+
+returns-3 : tie.Need-returns-3
+returns-3 c =
+    let at = c .before .before .before in
+    c .refuse3 .ensures
+    ∙ push-outside (at .before .before .args .permutation) (at .before .before .args .place) (sound-now at .fault) (inr (c .before .before .if2 .left, c .before .if3 .taken))
+
+push-row-requires : tie.Need-push-row-requires
+push-row-requires c κs =
+    let many = sound-now (c .before .before .before .before) .many in
+    (omega arith, omega arith, search needs)
+
+returns-4 : tie.Need-returns-4
+returns-4 c =
+    let at = c .before .before .before .before .before in
+    let low : 2 ≤ at .before .before .args .place = search needs in
+    let high : at .before .before .args .place ≤ at .before .before .args .permutation .n = search needs in
+    push-done (at .before .before .args .permutation) (at .before .before .args .place) _ (sound-now at) low high (c .push-row .ensures)
+
+pub push-spec : {M : Type 1} → statement M
+push-spec =
+    tie.close
+    (tie.spec
+    check-requires
+    refuse-requires
+    returns
+    refuse-requires-2
+    returns-2
+    refuse-requires-3
+    returns-3
+    push-row-requires
+    returns-4)

@@ -1,0 +1,28 @@
+-- `permutation::successor::successor` meets its contract. Assumes nothing.
+use borrow.Author.Tests.{ne-eqb}
+use Rattle.permutation.specs.Answers.{placed}
+use Rattle.permutation.proofs.Records.{Sound, checked}
+use borrow.Author.Needs.{needs}
+use Rattle.permutation.proofs.successor.successor.Statement.{statement}
+use Rattle.permutation.proofs.successor.successor.Tie as tie
+
+check-requires : tie.Need-check-requires
+check-requires c κs = search needs
+
+returns : tie.Need-returns
+unfolding placed
+returns c = rw (← c .before .check .ensures .right, ne-eqb _ _ (c .if1 .taken))
+
+-- past the test, the record is a permutation's
+sound-now : (c : tie.Else1) → Sound (c .before .before .args .permutation)
+sound-now c = checked (search needs) (c .before .check .ensures) (c .if1 .left)
+
+next-place-requires : tie.Need-next-place-requires
+next-place-requires c κs = (sound-now (c .before .before) .many, search needs)
+
+returns-2 : tie.Need-returns-2
+unfolding placed
+returns-2 c = rw (sound-now (c .before .before .before) .fault, c .next-place .ensures)
+
+pub successor-spec : {M : Type 1} → statement M
+successor-spec = tie.close (tie.spec check-requires returns next-place-requires returns-2)

@@ -1,0 +1,105 @@
+-- `permutation::validity::spots_of` meets its contract. The loop's invariant: the names of the first i places were met. Assumes nothing.
+use mathlib.Core.Path.{_≡_, subst}
+use mathlib.Core.Bool.{true}
+use Prim.Native.Nat.{ℕ, _-_, _≤_}
+use native.Mathlib.Omega.{arith}
+use borrow.Author.Needs.{needs}
+use lib.ListN.{take}
+use lib.Seq.{length-take-le}
+use Rattle.permutation.specs.Spots.{Spotted}
+use Rattle.permutation.proofs.Meeting.{Met, Turn, met-start, met-outside, met-twice, met-fits, met-turn, met-all}
+use Rattle.permutation.proofs.validity.spots_of.Statement.{statement}
+use Rattle.permutation.proofs.validity.spots_of.Tie as tie
+
+abbrev Inv-loop : tie.InvT-loop
+Inv-loop cells n spots₀ seen₀ i₀ spots seen i = (i ≤ n) × Met n (take i cells) spots seen
+
+abbrev μ-loop : tie.MeasureT-loop
+μ-loop cells n spots₀ seen₀ i₀ spots seen i = n - i
+
+loop-holds : tie.Need-loop-holds Inv-loop μ-loop
+loop-holds c = (omega arith, met-start (c .args .n))
+
+element-copy-out-wide : tie.Need-element-copy-out-wide Inv-loop μ-loop
+element-copy-out-wide c = search needs
+
+wide-requires : tie.Need-wide-requires Inv-loop μ-loop
+wide-requires c κs = search needs
+
+-- the turn at the name that was read
+turn : (c : tie.After-wide Inv-loop μ-loop) → let at = c .before .before .before in Turn (at .before .args .n) (at .loop .i) (c .wide .result) (at .before .args .cells .now)
+turn c =
+    let at = c .before .before .before in
+    record { few = at .before .pre .0; long = at .before .pre .1; more = c .before .before .loop-test .taken; is = c .wide .ensures }
+
+returns : tie.Need-returns Inv-loop μ-loop
+returns c = met-outside (turn (c .before)) _ (λ b. omega (arith, b .0))
+
+returns-2 : tie.Need-returns-2 Inv-loop μ-loop
+returns-2 c = met-outside (turn (c .before .before)) _ (λ b. omega (arith, b .1))
+
+array-read-if3 : tie.Need-array-read-if3 Inv-loop μ-loop
+array-read-if3 c = search needs
+
+returns-3 : tie.Need-returns-3 Inv-loop μ-loop
+returns-3 c =
+    let got = c .before .before .before in
+    met-twice (turn got) (got .before .before .before .loop .inv .1) (omega arith) (omega arith) (c .if3 .taken)
+
+ones-below-requires : tie.Need-ones-below-requires Inv-loop μ-loop
+ones-below-requires c κs = search needs
+
+array-write-spots : tie.Need-array-write-spots Inv-loop μ-loop
+array-write-spots c = search needs
+
+bit-requires : tie.Need-bit-requires Inv-loop μ-loop
+bit-requires c κs = search needs
+
+add-seen : tie.Need-add-seen Inv-loop μ-loop
+add-seen c =
+    let got = c .before .before .before .before .before in
+    omega (arith, met-fits (turn got) (got .before .before .before .loop .inv .1) (omega arith) (omega arith), c .bit .ensures)
+
+add-i : tie.Need-add-i Inv-loop μ-loop
+add-i c = search needs
+
+loop-less : tie.Need-loop-less Inv-loop μ-loop
+loop-less c = search needs
+
+loop-again : tie.Need-loop-again Inv-loop μ-loop
+loop-again c =
+    let got = c .before .before .before .before .before in
+    let met = got .before .before .before .loop .inv .1 in (
+      omega arith,
+      rw (c .bit .ensures) (met-turn (turn got) met (omega arith) (omega arith) _ (c .before .before .if3 .left) (c .before .ones-below .ensures)),
+    )
+
+returns-4 : tie.Need-returns-4 Inv-loop μ-loop
+returns-4 c =
+    let at = c .before in
+    let a = at .before .args in
+    let all : at .loop .i ≡ a .n = omega arith in
+    subst (λ (k : ℕ). Spotted (take k (a .cells .now)) (a .n) true (at .loop .spots)) all
+    (met-all (at .loop .inv .1) (at .before .pre .0) (omega (arith, length-take-le (at .loop .i) (a .cells .now) (omega arith))))
+
+pub spots-of-spec : {M : Type 1} → statement M
+spots-of-spec =
+    tie.close
+    (tie.spec
+    Inv-loop
+    μ-loop
+    loop-holds
+    element-copy-out-wide
+    wide-requires
+    returns
+    returns-2
+    array-read-if3
+    returns-3
+    ones-below-requires
+    array-write-spots
+    bit-requires
+    add-seen
+    add-i
+    loop-less
+    loop-again
+    returns-4)

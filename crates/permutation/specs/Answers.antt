@@ -1,0 +1,58 @@
+-- What the public functions answer, for all inputs. "A job sent back gives the number, 0 for every other number, an order record or digit row of zeros".
+-- Assumes nothing.
+use mathlib.Core.Bool.{cond, _&&_}
+use mathlib.Core.List.{List, []}
+use Prim.Native.Nat.{ℕ}
+use lib.Dec.{eqb, leb, ltb}
+use Rattle.theory.specs.Reasons.{done, size, value, sized}
+use Rattle.theory.specs.Factorial.{factorial}
+use Rattle.theory.specs.Permutation.{row}
+use Rattle.theory.specs.Push.{push}
+use Rattle.theory.specs.Successor.{successor}
+use Rattle.theory.specs.Rank.{rank, digits}
+use Rattle.theory.specs.Unrank.{unrank}
+use Rattle.permutation.specs.Records.{listOf, recordOf, faultOf}
+use Rattle.permutation.specs.declared.answers.Permutation.{Permutation}
+use Rattle.permutation.specs.declared.answers.Permuted.{Permuted}
+use Rattle.permutation.specs.declared.answers.Placed.{Placed}
+use Rattle.permutation.specs.declared.answers.Digits.{Digits}
+use Rattle.permutation.specs.declared.answers.Ranked.{Ranked}
+
+-- a where the number says done, and otherwise z: zeros, or what stood there before
+abbrev pub given {ℓ} : {A : Type ℓ} → ℕ → A → A → A
+given number a z = cond (eqb number done) a z
+
+-- a job that gives a permutation: its record, or that of no cells, which is all zeros
+abbrev pub permuted : ℕ → List ℕ → Permuted
+permuted number xs = record { number = number; permutation = recordOf (given number xs []) }
+
+abbrev pub refused : ℕ → Permuted
+refused number = record { number = number; permutation = recordOf [] }
+
+-- "push place outside 2 to n" is value. "Where several hold, the lowest number is given": size and muddle come first
+unfoldable pub pushNumber : Permutation → ℕ → ℕ
+pushNumber p i = cond (eqb (faultOf p) done) (cond (leb 2 i && leb i (p .n)) done value) (faultOf p)
+
+-- "Push at place i, 2 to n: the cell there moves to place 1, and those above it move down one."
+unfoldable pub pushed : Permutation → ℕ → Permuted
+pushed p i = permuted (pushNumber p i) (push i (listOf p))
+
+-- "Next step of an order, as the place to push"
+unfoldable pub placed : Permutation → Placed
+placed p = record { number = faultOf p; place = given (faultOf p) (successor (p .n) (listOf p)) 0 }
+
+-- "Digits b0 first, n of them, the last always 0, in a row of twenty with 0 past n."
+unfoldable pub digited : Permutation → Digits
+digited p = record { number = faultOf p; row = row (given (faultOf p) (digits (p .n) (listOf p)) []) }
+
+-- "Rank = digit + n × rank of the remaining order"
+unfoldable pub ranked : Permutation → Ranked
+ranked p = record { number = faultOf p; rank = given (faultOf p) (rank (p .n) (listOf p)) 0 }
+
+-- "rank at or above n!" is value
+unfoldable pub unrankNumber : ℕ → ℕ → ℕ
+unrankNumber n r = cond (sized n) (cond (ltb r (factorial n)) done value) size
+
+-- "order of a rank"
+unfoldable pub unranked : ℕ → ℕ → Permuted
+unranked n r = permuted (unrankNumber n r) (unrank n r)

@@ -1,0 +1,45 @@
+// The record of a permutation, and what the jobs on permutations answer: a number first, 0 where the job is done.
+ghost use mathlib.Core.Path.{_≡_};
+ghost use Rattle.permutation.specs.Answers.{refused};
+
+// Document 01: an order. The first n places hold each of 1 to n once, highest charge first; the places past n hold 0.
+#[repr(C)]
+pub struct Permutation {
+    pub n: usize,
+    pub cells: [u8; 20],
+}
+
+#[repr(C)]
+pub struct Permuted {
+    pub number: u8,
+    pub permutation: Permutation,
+}
+
+#[repr(C)]
+pub struct Placed {
+    pub number: u8,
+    pub place: usize,
+}
+
+#[repr(C)]
+pub struct Digits {
+    pub number: u8,
+    pub row: [u8; 20],
+}
+
+#[repr(C)]
+pub struct Ranked {
+    pub number: u8,
+    pub rank: u64,
+}
+
+// A job that was to answer a permutation is refused: zeros beside the number. For the jobs of other crates too.
+pub fn refuse(number: u8) -> Permuted
+    ensures { λ r. ⌜ r ≡ refused number ⌝ }
+{
+    let cells = [0u8; 20];
+    Permuted {
+        number,
+        permutation: Permutation { n: 0, cells },
+    }
+}

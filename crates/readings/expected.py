@@ -1,0 +1,328 @@
+#!/usr/bin/env python3
+"""What the program `readings` must write for its `stdin`, worked out from documents 01 and 001 alone.
+
+A model of document 01's rules on lists, as the paper words them; nothing of the code. What the two documents print is typed below as
+data: the model is checked against it, and `stdin` must have those readings, before a line is written.
+
+    python3 crates/readings/expected.py > crates/readings/stdout
+"""
+from itertools import permutations
+from math import factorial
+from pathlib import Path
+
+# The rules of document 01. An order is a list of names, place 1 first.
+
+
+def push(order, i):
+    """The cell at place i moves to place 1, and those above it move down one."""
+    return [order[i - 1]] + order[:i - 1] + order[i:]
+
+
+def successor(order):
+    n = len(order)
+    if n == 2:
+        return 2
+    if order[0] != n:
+        return n
+    return n + 1 - successor(order[:0:-1])  # places n, n-1, ..., 2
+
+
+def step(order):
+    return push(order, successor(order))
+
+
+def digit(order):
+    """(i - 2) modulo n, where cell n stands at place i."""
+    return (order.index(len(order)) + 1 - 2) % len(order)
+
+
+def remaining(order):
+    """Places i-1 down to 1, then places n down to i+1."""
+    i = order.index(len(order)) + 1
+    return order[:i - 1][::-1] + order[i:][::-1]
+
+
+def digits(order):
+    return [digit(order)] + digits(remaining(order)) if len(order) > 1 else [0]
+
+
+def rank(order):
+    return digit(order) + len(order) * rank(remaining(order)) if len(order) > 1 else 0
+
+
+def unrank(n, r):
+    """The order of n cells that has rank r, from the order that remains: r is its digit and n times the rank of that."""
+    if n == 1:
+        return [1]
+    rest = unrank(n - 1, r // n)
+    i = next(i for i in range(1, n + 1) if (i - 2) % n == r % n)
+    return rest[:i - 1][::-1] + [n] + rest[i - 1:][::-1]
+
+
+def read(levels):
+    """The names from highest level to lowest."""
+    return sorted(range(1, len(levels) + 1), key=lambda c: -levels[c - 1])
+
+
+def push_level(levels, i):
+    """The level of the cell at place i becomes the old top level plus 1, and no other changes."""
+    cell = read(levels)[i - 1]
+    return [max(levels) + 1 if c == cell else level for c, level in enumerate(levels, 1)]
+
+
+def count_up(levels, k):
+    for _ in range(k):
+        levels = push_level(levels, successor(read(levels)))
+    return levels
+
+
+# Why a job is sent back: the lowest of the numbers whose reason holds, 0 where none does.
+REASONS = dict(size=1, fit=2, muddle=3, tie=4, value=5, ceiling=6)
+
+
+def lowest(**holds):
+    return min([REASONS[word] for word in holds if holds[word]], default=0)
+
+
+def sized(n):
+    return 2 <= n <= 20
+
+
+def is_order(n, row):
+    return sized(n) and sorted(row[:n]) == list(range(1, n + 1)) and not any(row[n:])
+
+
+def record_reasons(n, row):
+    return dict(size=not sized(n), muddle=not is_order(n, row))
+
+
+def level_reasons(levels):
+    return dict(size=not sized(len(levels)), tie=len(set(levels)) < len(levels))
+
+
+def over(levels, pushes):
+    """Top level plus the job's pushes exceeds 65,535."""
+    return bool(levels) and max(levels) + pushes > 65535
+
+
+# What each job gives: its number, and beside it what it answers; where it is sent back, zeros. `cut` is a row without the zeros at its end.
+
+def row(names):
+    return (names + [0] * 20)[:20]
+
+
+def cut(names):
+    return names[:max([i for i, name in enumerate(names, 1) if name], default=1)]
+
+
+def record(order):
+    return [len(order), "|", *cut(row(order))]
+
+
+def do_rank(n, *names):
+    number = lowest(**record_reasons(n, row([*names])))
+    return [number, 0 if number else rank([*names])]
+
+
+def do_digits(n, *names):
+    number = lowest(**record_reasons(n, row([*names])))
+    return [number, *row([] if number else digits([*names]))]
+
+
+def do_successor(n, *names):
+    number = lowest(**record_reasons(n, row([*names])))
+    return [number, 0 if number else successor([*names])]
+
+
+def do_push(i, n, *names):
+    number = lowest(**record_reasons(n, row([*names])), value=not 2 <= i <= n)
+    return [number, *record([] if number else push([*names], i))]
+
+
+def do_run_steps(k, n, *names):
+    number = lowest(**record_reasons(n, row([*names])))
+    order, pushes = [] if number else [*names], row([])
+    for _ in range(0 if number else k):
+        order = step(order)
+        pushes[order[0] - 1] += 1
+    return [number, *record(order), "|", *pushes]
+
+
+def do_unrank(n, r):
+    # size decides past n = 20, where n! is not worked out
+    number = lowest(size=not sized(n), value=n <= 20 and r >= factorial(n))
+    return [number, *record([] if number else unrank(n, r))]
+
+
+def do_read(*levels):
+    number = lowest(**level_reasons(levels))
+    return [number, *record([] if number else read(levels))]
+
+
+def do_push_level(i, *levels):
+    number = lowest(**level_reasons(levels), value=not 2 <= i <= len(levels), ceiling=over(levels, 1))
+    return [number, 0 if number else 1, "|", *(levels if number else push_level(levels, i))]
+
+
+def call(k, levels):
+    """A count-up call: its number, and the levels that it leaves."""
+    number = lowest(**level_reasons(levels), ceiling=over(levels, k))
+    return number, levels if number else count_up(levels, k)
+
+
+def do_count_up(k, *levels):
+    number, after = call(k, levels)
+    return [number, 0 if number else k, "|", *after]
+
+
+def do_run_calls(room, calls, *lists):
+    """A list of calls, each on the levels as the last one left them. Its number goes to its byte, and the other bytes keep their 9."""
+    counts, levels, numbers, done = lists[:calls], lists[calls:], [9] * room, 0
+    number = lowest(fit=room < calls)
+    for i, k in enumerate(() if number else counts):
+        numbers[i], levels = call(k, levels)
+        done += 0 if numbers[i] else k
+    return [number, done, "|", *levels, "|", *numbers]
+
+
+def do_walk(steps, every, n, *names):
+    """Step by step. After each, the rank is the start's plus the steps, modulo n!, and the order of that rank is the one met."""
+    order, start, agreed, lines = [*names], rank([*names]), 0, []
+
+    def show(word, k):
+        lines.extend(["\n" + word, k, ":", *record(order), ":", rank(order), successor(order)])
+
+    for k in range(steps):
+        if k % every == 0:
+            show("step", k)
+        order = step(order)
+        expected = (start + k + 1) % factorial(n)
+        agreed += rank(order) == expected and unrank(n, expected) == order
+    show("agreed", agreed)
+    return lines
+
+
+JOBS = dict(rank=do_rank, digits=do_digits, successor=do_successor, push=do_push, run_steps=do_run_steps, unrank=do_unrank, read=do_read,
+            push_level=do_push_level, count_up=do_count_up, run_calls=do_run_calls)
+
+
+def answer(line):
+    if line.startswith("#"):
+        return line
+    job, *words = line.split()
+    numbers = [int(word) for word in words if word.isdigit()]
+    if job == "walk":
+        return line + " ".join(map(str, do_walk(*numbers))).replace(" \n", "\n")
+    return " ".join(map(str, [line, ":", *JOBS[job](*numbers)]))
+
+
+# What the documents print.
+
+# Document 01, bench readings: ranks, next places, next orders, and digits
+RANKS = {(1, 2): 0, (2, 1): 1, (1, 3, 2): 0, (2, 1, 3): 1, (3, 2, 1): 2, (2, 3, 1): 3, (1, 2, 3): 4, (3, 1, 2): 5, (1, 4, 2, 3): 0, (4, 2, 3, 1): 3,
+         (1, 2, 3, 4): 10, (4, 1, 2, 3): 11, (4, 2, 1, 3): 23, (2, 5, 4, 3, 6, 1): 219, (1, 6, 4, 2, 3, 5): 0}
+PLACES = {(4, 2, 3, 1): 2, (4, 1, 2, 3): 3}
+NEXT = {(3, 1, 2): [1, 3, 2], (4, 2, 3, 1): [2, 4, 3, 1], (4, 2, 1, 3): [1, 4, 2, 3]}
+DIGITS = {(2, 5, 4, 3, 6, 1): [3, 1, 3, 1, 0, 0]}
+# .. and the numbers of jobs: 1 size, 4 tie, 5 value, 6 ceiling
+NUMBERS = {"unrank 1 0": 1, "unrank 21 0": 1, "unrank 2 0": 0, "unrank 20 0": 0, "unrank 3 5": 0, "unrank 3 6": 5, "read 7 7": 4,
+           "count_up 5 of 65528 65530 65529": 0, "count_up 6 of 65528 65530 65529": 6}
+# Document 01, the bench sheet: levels 3, 1, 2 are counted up by 4, cell 3 is pushed, and then the levels and the rank are printed
+SHEET_LEVELS, SHEET_RANK = [7, 6, 8], 5
+
+# Document 001. The text at hand has no pictures: of Example 1 it has the places, of Example 9 and Fig. 2 what is said of them, of the levels in Fig. 3 no numbers.
+EXAMPLE_1 = [2, 3, 3, 2, 3, 3]
+# Example 5: the columns of the first block of C' and those of C''; of the second block the second row; the last rows of the second and the third
+BLOCK_1 = [[1, 2, 3, 4], [3, 1, 2, 4], [2, 3, 1, 4], [3, 2, 1, 4], [1, 3, 2, 4], [2, 1, 3, 4]]
+BLOCK_C = [[4, 1, 3, 2], [1, 4, 3, 2], [3, 1, 4, 2], [4, 3, 1, 2], [3, 4, 1, 2], [1, 3, 4, 2]]
+SECOND_ROW, LAST_ROWS = [2, 4, 1, 2, 1, 4], [3] * 6 + [1] * 6
+# Example 9: the balanced code of 4 cells; "the permutation [1,4,2,3] has rank 0"
+FIRST = [1, 4, 2, 3]
+# Example 11: the permutation and its residual ones, each with the digit that is read from it
+EXAMPLE_11 = [([2, 5, 4, 3, 6, 1], 3), ([3, 4, 5, 2, 1], 1), ([4, 3, 1, 2], 3), ([2, 1, 3], 1), ([1, 2], 0)]
+
+
+def pushes(order, places):
+    """The orders that pushes at these places lead through, and the lines of the input that push so."""
+    met = [order]
+    for i in places:
+        met.append(push(met[-1], i))
+    return met, [" ".join(map(str, ["push", i, "of", *record(order)])) for order, i in zip(met, places)]
+
+
+def cycle(order):
+    """The orders from this one until it returns."""
+    met = [order]
+    while step(met[-1]) != order:
+        met.append(step(met[-1]))
+    return met
+
+
+def rank_zero(n):
+    """[1, n, n-2, n-4, ..., n-3, n-1]"""
+    return [1, *range(n, 1, -2), *[*range(n - 1, 1, -2)][::-1]]
+
+
+def on(job, order):
+    return " ".join(map(str, [job, *record([*order])]))
+
+
+def check_document_01(lines):
+    for order, r in RANKS.items():
+        assert rank([*order]) == r and unrank(len(order), r) == [*order]
+        assert {on("rank", order), f"unrank {len(order)} {r}"} <= lines
+    for order, i in PLACES.items():
+        assert successor([*order]) == i and on("successor", order) in lines
+    for order, after in NEXT.items():
+        assert step([*order]) == after and on(f"push {successor([*order])} of", order) in lines
+    for order, row in DIGITS.items():
+        assert digits([*order]) == row and on("digits", order) in lines
+    for line, number in NUMBERS.items():
+        assert answer(line).split(" : ")[1].split()[0] == str(number) and line in lines
+    assert answer("count_up 4 of 3 1 2") == "count_up 4 of 3 1 2 : 0 4 | 7 6 5" and push_level([7, 6, 5], 3) == SHEET_LEVELS
+    assert rank(read(SHEET_LEVELS)) == SHEET_RANK and {"count_up 4 of 3 1 2", "push_level 3 of 7 6 5", on("rank", read(SHEET_LEVELS))} <= lines
+
+
+def check_document_001(lines):
+    # Example 1: "a Gray code regardless of the choice of the first column"; from rank 5 on document 01's steps push at these places
+    for first in permutations([1, 2, 3]):
+        met, _ = pushes([*first], EXAMPLE_1)
+        assert met[6] == met[0] and len({*map(tuple, met)}) == 6
+    assert {*pushes([1, 2, 3], EXAMPLE_1)[1], on("walk 6 by 1 of", (3, 1, 2))} <= lines
+    assert [successor(order) for order in cycle([3, 1, 2])] == EXAMPLE_1
+
+    # Example 5: "rotate the sequence", for each block of C'; C'' by the original one; a push at place 4 between blocks
+    rotated = EXAMPLE_1[1:]
+    met, run = pushes(BLOCK_1[0], rotated[:4] + [4] + EXAMPLE_1[:5] + [4, 4] + rotated + [4] + rotated + [4])
+    assert met[24] == met[0] and len({*map(tuple, met)}) == 24 and {*run} <= lines
+    assert met[:5] + [met[11]] == BLOCK_1 and met[5:11] == BLOCK_C
+    assert [order[1] for order in met[12:18]] == SECOND_ROW and [order[3] for order in met[12:24]] == LAST_ROWS
+
+    # Example 9: "each row is an orbit generated by t_n"; the exits, "after dropping the 4 at the top and turning them upside down, form a 3-RMGC"
+    # that is "equivalent to the code from Example 1, up to a rotation"
+    met = cycle(FIRST)
+    assert len(met) == 24 and rank(FIRST) == 0 and on("walk 24 by 1 of", FIRST) in lines
+    assert all(met[k + 1] == push(met[k], 4) for k in range(24) if k % 4 < 3) and all((met[k][0] == 4) == (k % 4 == 3) for k in range(24))
+    exits = [order[:0:-1] for order in met if order[0] == 4]
+    assert exits == cycle(exits[0]) and len(exits) == 6 and [successor(order) for order in exits] == rotated + EXAMPLE_1[:1]
+    assert all(on(job, order) in lines for order in exits for job in ("rank", "successor"))
+
+    # Example 11
+    assert digits(EXAMPLE_11[0][0]) == [d for _, d in EXAMPLE_11] + [0] and all(digit(order) == d for order, d in EXAMPLE_11)
+    assert [remaining(order) for order, _ in EXAMPLE_11[:-1]] == [order for order, _ in EXAMPLE_11[1:]]
+    assert all(on(job, order) in lines for order, _ in EXAMPLE_11 for job in ("digits", "rank"))
+
+    # Section III-C: the order of rank 0. And for few cells, that ranks, orders and steps are one to one
+    for n in range(2, 21):
+        assert unrank(n, 0) == rank_zero(n) and {f"unrank {n} 0", on("rank", rank_zero(n))} <= lines
+    for n in range(2, 7):
+        orders = [[*order] for order in permutations(range(1, n + 1))]
+        assert sorted(map(rank, orders)) == [*range(factorial(n))]
+        assert all(unrank(n, rank(order)) == order and rank(step(order)) == (rank(order) + 1) % factorial(n) for order in orders)
+
+
+lines = Path(__file__).with_name("stdin").read_text().splitlines()
+check_document_01({*lines})
+check_document_001({*lines})
+for line in lines:
+    print(answer(line))

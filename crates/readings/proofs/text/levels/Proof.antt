@@ -1,0 +1,55 @@
+-- `readings::text::levels` is safe and ends. The measure is what is left of the list. Assumes nothing.
+use Prim.Native.Nat.{_-_, _≤_}
+use lib.ListN.{length}
+use borrow.Author.Needs.{needs}
+use Rattle.readings.proofs.text.levels.Statement.{statement}
+use Rattle.readings.proofs.text.levels.Tie as tie
+
+abbrev Inv-loop : tie.InvT-loop
+Inv-loop text₀ at list to₀ i₀ text to i = i ≤ length list
+
+abbrev μ-loop : tie.MeasureT-loop
+μ-loop text₀ at list to₀ i₀ text to i = length list - i
+
+loop-holds : tie.Need-loop-holds Inv-loop μ-loop
+loop-holds c = search needs
+
+mul-wide16 : tie.Need-mul-wide16 Inv-loop μ-loop
+mul-wide16 c = search needs
+
+shared-slice-read-wide16 : tie.Need-shared-slice-read-wide16 Inv-loop μ-loop
+shared-slice-read-wide16 c = search needs
+
+wide16-requires : tie.Need-wide16-requires Inv-loop μ-loop
+wide16-requires c κs = search needs
+
+field-requires : tie.Need-field-requires Inv-loop μ-loop
+field-requires c κs = search needs
+
+add-i : tie.Need-add-i Inv-loop μ-loop
+add-i c = search needs
+
+loop-less : tie.Need-loop-less Inv-loop μ-loop
+loop-less c = search needs
+
+loop-again : tie.Need-loop-again Inv-loop μ-loop
+loop-again c = search needs
+
+returns : tie.Need-returns Inv-loop μ-loop
+returns c = search needs
+
+pub levels-spec : {M : Type 1} → statement M
+levels-spec =
+    tie.close
+    (tie.spec
+    Inv-loop
+    μ-loop
+    loop-holds
+    mul-wide16
+    shared-slice-read-wide16
+    wide16-requires
+    field-requires
+    add-i
+    loop-less
+    loop-again
+    returns)

@@ -1,0 +1,41 @@
+// The jobs on permutations: what each gives, its number first.
+use super::text::Text;
+use super::text::bytes;
+use super::text::counts;
+use super::text::field;
+use super::text::mark;
+use super::text::number;
+use super::text::record;
+use permutation::answers::Permutation;
+use permutation::digits::digits;
+use permutation::rank::rank;
+use permutation::successor::successor;
+use runs::steps::run_steps;
+
+pub fn ranked(text: &mut Text, at: usize, permutation: Permutation) -> usize {
+    let answer = rank(permutation);
+    let to = number(text, at, answer.number);
+    field(text, to, answer.rank)
+}
+
+pub fn digited(text: &mut Text, at: usize, permutation: Permutation) -> usize {
+    let answer = digits(permutation);
+    let row = answer.row;
+    let to = number(text, at, answer.number);
+    bytes(text, to, &row)
+}
+
+pub fn placed(text: &mut Text, at: usize, permutation: Permutation) -> usize {
+    let answer = successor(permutation);
+    let to = number(text, at, answer.number);
+    field(text, to, answer.place as u64)
+}
+
+pub fn ran(text: &mut Text, at: usize, permutation: Permutation, k: u64) -> usize {
+    let answer = run_steps(permutation, k);
+    let pushes = answer.counts;
+    let mut to = number(text, at, answer.number);
+    to = record(text, to, answer.permutation);
+    to = mark(text, to, b'|');
+    counts(text, to, &pushes)
+}

@@ -1,0 +1,122 @@
+-- `runs::calls::run_calls` meets its contract. The loop's invariant: levels, numbers and pushes are those of the calls made. Assumes nothing.
+use mathlib.Core.Path.{_≡_, subst}
+use Prim.Native.Nat.{ℕ, _+_, _-_, _≤_}
+use native.Mathlib.Omega.{arith}
+use lib.ListN.{length, set}
+use Rattle.runs.proofs.Calling.{Made, made-none, made-more, called-done, levels-done, numbers-done, calls-of, called-refused, levels-refused, numbers-refused, levels-length, numbers-length}
+use borrow.Author.Needs.{needs}
+use Rattle.runs.proofs.calls.run_calls.Statement.{statement}
+use Rattle.runs.proofs.calls.run_calls.Tie as tie
+
+abbrev Inv-loop : tie.InvT-loop
+Inv-loop levels₀ counts numbers₀ pushes₀ i₀ levels numbers pushes i =
+    (i ≤ length counts) × (length counts ≤ length numbers₀) × Made levels₀ counts numbers₀ i levels numbers pushes
+
+abbrev μ-loop : tie.MeasureT-loop
+μ-loop levels₀ counts numbers₀ pushes₀ i₀ levels numbers pushes i = length counts - i
+
+returns : tie.Need-returns Inv-loop μ-loop
+returns c =
+    let a = c .before .before .before .before .args in
+    let L = a .levels .now in
+    let ks = a .counts .now in
+    let numbers = a .numbers .now in
+    let short = c .if1 .taken in
+    (called-refused L ks numbers short, (levels-refused L ks numbers short, (numbers-refused L ks numbers short, λ z. absurd (omega arith))))
+
+loop-holds : tie.Need-loop-holds Inv-loop μ-loop
+loop-holds c =
+    let a = c .before .before .before .before .args in
+    (omega arith, c .if1 .left, made-none (a .levels .now) (a .counts .now) (a .numbers .now))
+
+mul-count-up : tie.Need-mul-count-up Inv-loop μ-loop
+mul-count-up c = search needs
+
+shared-slice-read-count-up : tie.Need-shared-slice-read-count-up Inv-loop μ-loop
+shared-slice-read-count-up c = search needs
+
+count-up-requires : tie.Need-count-up-requires Inv-loop μ-loop
+count-up-requires c κs = search needs
+
+slice-write-numbers : tie.Need-slice-write-numbers Inv-loop μ-loop
+slice-write-numbers c =
+    let at = c .before .before .before .before .before .before in
+    let inv = at .loop .inv in
+    omega (arith, numbers-length _ _ _ (inv .2) (inv .0) (inv .1), inv .1)
+
+-- the call that a turn makes
+made : (c : tie.After-struct-known Inv-loop μ-loop)
+    → let turn = c .before .before .before in
+    let at = turn .before .before .before .before in
+    let a = at .before .before .before .before .before .args in
+    (at .loop .pushes + turn .count-up .result .pushes ≤ 65535)
+    × Made (a .levels .now) (a .counts .now) (a .numbers .now) (at .loop .i + 1) (turn .count-up .last .0)
+    (set (at .loop .numbers) (at .loop .i) (turn .count-up .result .number)) (at .loop .pushes + turn .count-up .result .pushes)
+made c =
+    let turn = c .before .before .before in
+    let at = turn .before .before .before .before in
+    let inv = at .loop .inv in
+    made-more _ _ _ (at .loop .i) (at .loop .levels) (at .loop .numbers) (at .loop .pushes) (inv .2) (turn .before .before .before .loop-test .taken) (inv .1)
+    _ _ (turn .count-up .ensures .0) (turn .count-up .ensures .1)
+
+add-pushes : tie.Need-add-pushes Inv-loop μ-loop
+add-pushes c = omega (arith, made c .0)
+
+add-i : tie.Need-add-i Inv-loop μ-loop
+add-i c = search needs
+
+loop-less : tie.Need-loop-less Inv-loop μ-loop
+loop-less c = search needs
+
+loop-again : tie.Need-loop-again Inv-loop μ-loop
+loop-again c =
+    let at = c .before .before .before .before .before .before .before in
+    (omega arith, at .loop .inv .1, made c .1)
+
+same-length : tie.Need-same-length Inv-loop μ-loop
+same-length c = levels-length _ _ _ (c .before .loop .inv .2)
+
+same-length-2 : tie.Need-same-length-2 Inv-loop μ-loop
+same-length-2 c =
+    let inv = c .before .loop .inv in
+    numbers-length _ _ _ (inv .2) (inv .0) (inv .1)
+
+returns-2 : tie.Need-returns-2 Inv-loop μ-loop
+returns-2 c =
+    let at = c .before in
+    let a = at .before .before .before .before .before .args in
+    let L = a .levels .now in
+    let ks = a .counts .now in
+    let numbers₀ = a .numbers .now in
+    let levels = at .loop .levels in
+    let numbers = at .loop .numbers in
+    let pushes = at .loop .pushes in
+    let room = at .loop .inv .1 in
+    let all : at .loop .i ≡ length ks = omega (arith, at .loop .inv .0) in
+    let v = subst (λ (j : ℕ). Made L ks numbers₀ j levels numbers pushes) all (at .loop .inv .2) in (
+      called-done L ks numbers₀ levels numbers pushes v room,
+      (
+        levels-done L ks numbers₀ levels numbers pushes v room,
+        (numbers-done L ks numbers₀ levels numbers pushes v room, λ z few start. calls-of L ks numbers₀ levels numbers pushes v few start),
+      ),
+    )
+
+pub run-calls-spec : {M : Type 1} → statement M
+run-calls-spec =
+    tie.close
+    (tie.spec
+    Inv-loop
+    μ-loop
+    returns
+    loop-holds
+    mul-count-up
+    shared-slice-read-count-up
+    count-up-requires
+    slice-write-numbers
+    add-pushes
+    add-i
+    loop-less
+    loop-again
+    same-length
+    same-length-2
+    returns-2)

@@ -1,0 +1,119 @@
+-- `runs::steps::run_steps` meets its contract. The loop's invariant: the record and the counts are those of the steps done. Assumes nothing.
+use mathlib.Core.Path.{_≡_, sym, ap, subst, _∙_}
+use Prim.Native.Nat.{ℕ, _-_, _≤_}
+use native.Mathlib.Omega.{arith}
+use Rattle.permutation.specs.Records.{faultOf}
+use Rattle.permutation.specs.Answers.{placed}
+use Rattle.permutation.specs.declared.answers.Permuted.{Permuted}
+use Rattle.permutation.specs.declared.answers.Placed.{Placed}
+use Rattle.permutation.proofs.Records.{Sound, sound}
+use Rattle.runs.proofs.Running.{Running, running-none, Turn, turn, ran-done, run-record, ran-refused}
+use borrow.Author.Needs.{needs}
+use Rattle.runs.proofs.steps.run_steps.Statement.{statement}
+use Rattle.runs.proofs.steps.run_steps.Tie as tie
+
+abbrev Inv-loop : tie.InvT-loop
+Inv-loop k number counts₀ current₀ done₀ counts current done = (done ≤ k) × Sound current₀ × Running current₀ done current counts
+
+abbrev μ-loop : tie.MeasureT-loop
+μ-loop k number counts₀ current₀ done₀ counts current done = k - done
+
+first-requires : tie.Need-successor-requires Inv-loop μ-loop
+first-requires c κs = search needs
+
+-- the number of the first record's successor is the record's
+number-is : (c : tie.After-successor Inv-loop μ-loop) → c .successor .result .number ≡ faultOf (c .before .args .permutation)
+unfolding placed
+number-is c = ap (λ (a : Placed). a .number) (c .successor .ensures)
+
+returns : tie.Need-returns Inv-loop μ-loop
+returns c = (
+  ran-refused (c .before .before .args .permutation) (c .before .before .args .k) _ (number-is (c .before)) (c .if1 .taken),
+  λ z. absurd (c .if1 .taken z),
+)
+
+loop-holds : tie.Need-loop-holds Inv-loop μ-loop
+loop-holds c =
+    let s = sound (c .before .before .args .permutation) (search needs) (sym (number-is (c .before)) ∙ c .if1 .left) in
+    (omega arith, s, running-none (c .before .before .args .permutation) s)
+
+next-requires : tie.Need-successor-requires-2 Inv-loop μ-loop
+next-requires c κs = search needs
+
+push-requires : tie.Need-push-requires Inv-loop μ-loop
+push-requires c κs = search needs
+
+array-read-wide : tie.Need-array-read-wide Inv-loop μ-loop
+array-read-wide c = search needs
+
+wide-requires : tie.Need-wide-requires Inv-loop μ-loop
+wide-requires c κs = search needs
+
+-- the step that a turn does
+stepped : (c : tie.After-wide Inv-loop μ-loop)
+    → let at = c .before .before .before .before .before .before in
+    Turn (at .before .before .before .args .permutation) (at .loop .done) (at .loop .counts) (c .wide .result) (c .before .before .before .push .result .permutation)
+stepped c =
+    let at = c .before .before .before .before .before .before in
+    let p = at .before .before .before .args .permutation in
+    turn p (at .loop .inv .1) (at .loop .done) (at .loop .current) (at .loop .counts) (at .loop .inv .2) _
+    (ap (λ (a : Placed). a .place) (c .before .before .before .before .successor2 .ensures)) _
+    (ap (λ (a : Permuted). a .permutation) (c .before .before .before .push .ensures)) _ (c .wide .ensures)
+
+sub-counts : tie.Need-sub-counts Inv-loop μ-loop
+sub-counts c = stepped c .low
+
+mul-counts : tie.Need-mul-counts Inv-loop μ-loop
+mul-counts c = let t = stepped c in omega (arith, t .high)
+
+array-read-counts : tie.Need-array-read-counts Inv-loop μ-loop
+array-read-counts c = let t = stepped c in omega (arith, t .low, t .high)
+
+add-counts : tie.Need-add-counts Inv-loop μ-loop
+add-counts c = let t = stepped c in omega (arith, t .fits)
+
+array-write-counts : tie.Need-array-write-counts Inv-loop μ-loop
+array-write-counts c = array-read-counts c
+
+add-done : tie.Need-add-done Inv-loop μ-loop
+add-done c = search needs
+
+loop-less : tie.Need-loop-less Inv-loop μ-loop
+loop-less c = search needs
+
+loop-again : tie.Need-loop-again Inv-loop μ-loop
+loop-again c =
+    let at = c .before .before .before .before .before .before in
+    (omega arith, at .loop .inv .1, stepped c .more)
+
+returns-2 : tie.Need-returns-2 Inv-loop μ-loop
+returns-2 c =
+    let at = c .before in
+    let p = at .before .before .before .args .permutation in
+    let s = at .loop .inv .1 in
+    let done : at .loop .done ≡ at .before .before .before .args .k = omega arith in
+    let v = subst (λ (j : ℕ). Running p j (at .loop .current) (at .loop .counts)) done (at .loop .inv .2) in
+    (ran-done p s _ _ _ v, λ z. run-record p s _ _ _ v)
+
+pub run-steps-spec : {M : Type 1} → statement M
+run-steps-spec =
+    tie.close
+    (tie.spec
+    Inv-loop
+    μ-loop
+    first-requires
+    returns
+    loop-holds
+    next-requires
+    push-requires
+    array-read-wide
+    wide-requires
+    sub-counts
+    mul-counts
+    array-read-counts
+    add-counts
+    array-write-counts
+    add-done
+    loop-less
+    loop-again
+    returns-2)

@@ -1,0 +1,3 @@
+-- The meanings that the contracts cite.
+pub mod Steps
+pub mod Calls

@@ -1,0 +1,47 @@
+-- A run of steps: its answer, and demand 3 of it. Assumes nothing.
+use mathlib.Core.Path.{_≡_}
+use mathlib.Core.List.{List, [], map}
+use Prim.Native.Nat.{ℕ, _+_, _-_, _%_, _≤_, _<_}
+use lib.ListN.{getD}
+use Rattle.theory.specs.Lists.{names}
+use Rattle.theory.specs.Factorial.{factorial}
+use Rattle.theory.specs.Permutation.{IsPermutation, row}
+use Rattle.theory.specs.Rank.{rank}
+use Rattle.theory.specs.Run.{steps, pushCount}
+use Rattle.permutation.specs.Records.{listOf, recordOf, faultOf}
+use Rattle.permutation.specs.Answers.{given}
+use Rattle.permutation.specs.declared.answers.Permutation.{Permutation}
+use Rattle.runs.specs.declared.answers.Ran.{Ran}
+
+-- the push counts of the cells 1 to n after k steps
+abbrev pub pushCounts : ℕ → ℕ → List ℕ → List ℕ
+pushCounts n k xs = map (λ c. pushCount n c k xs) (names n)
+
+-- "The first record is any order, so no step is sent back." A record that is none is refused with its number: size or muddle, and zeros beside it
+unfoldable pub ran : Permutation → ℕ → Ran
+ran p k = record {
+  number = faultOf p;
+  permutation = recordOf (given (faultOf p) (steps (p .n) k (listOf p)) []);
+  counts = row (given (faultOf p) (pushCounts (p .n) k (listOf p)) []);
+}
+
+-- the count of cell c in a list of counts by name
+abbrev pub countIn : List ℕ → ℕ → ℕ
+countIn counts c = getD counts (c - 1) 0
+
+-- demand 3 on permutations, of n cells and a run of k steps that led from xs to ys with these push counts. It renders the clauses of theory's `Demand3`
+-- that speak of permutations: of ys and the counts, and of the way there in `different`, `round` and `even`
+pub record RunOf (n : ℕ) (xs : List ℕ) (k : ℕ) (ys : List ℕ) (counts : ℕ → ℕ) : Type 0 where
+  pub run : ys ≡ steps n k xs
+  pub permutation : IsPermutation n ys
+  pub ranks : rank n ys ≡ (rank n xs + k) % factorial n
+  pub different : (i j : ℕ) → i < j → j ≤ k → j < factorial n → steps n i xs ≡ steps n j xs → ⊥
+  pub return : k ≡ factorial n → ys ≡ xs
+  pub pushes : (c : ℕ) → 1 ≤ c → c ≤ n → counts c ≡ pushCount n c k xs
+  pub shares : k ≡ factorial n → (c : ℕ) → 1 ≤ c → c ≤ n → counts c ≡ factorial (n - 1)
+  pub balance : (c d : ℕ) → 1 ≤ c → c ≤ n → 1 ≤ d → d ≤ n → counts c ≤ counts d + 2
+  -- a run of n! steps or more goes through a whole round, and every run is balanced after each of its steps
+  pub round :
+      factorial n ≤ k
+      → (steps n (factorial n) xs ≡ xs) × ((c : ℕ) → 1 ≤ c → c ≤ n → pushCount n c (factorial n) xs ≡ factorial (n - 1))
+  pub even : (j c d : ℕ) → j ≤ k → 1 ≤ c → c ≤ n → 1 ≤ d → d ≤ n → pushCount n c j xs ≤ pushCount n d j xs + 2

@@ -1,0 +1,43 @@
+// k steps: each asks the successor and pushes at the place given. The following step gets the record which that push returned.
+ghost use mathlib.Core.Path.{_≡_};
+ghost use Rattle.permutation.specs.Records.{listOf};
+ghost use Rattle.runs.specs.Steps.{ran, countIn, RunOf};
+use super::answers::Ran;
+use permutation::answers::Permutation;
+use permutation::cell::wide;
+use permutation::push::push;
+use permutation::successor::successor;
+
+// The second clause is demand 3 on permutations: the run from any permutation, for every k.
+pub fn run_steps(permutation: Permutation, k: u64) -> Ran
+    ensures { λ r. ⌜ r ≡ ran permutation k ⌝ }
+    ensures { λ r. ⌜ (r .number ≡ 0 → RunOf (permutation .n) (listOf permutation) k (listOf (r .permutation)) (countIn (r .counts))) ⌝ }
+{
+    // a run of no steps judges its record too
+    let number = successor(permutation).number;
+    let mut counts = [0u64; 20];
+    if number != 0 {
+        let cells = [0u8; 20];
+        return Ran {
+            number,
+            permutation: Permutation { n: 0, cells },
+            counts,
+        };
+    }
+    let mut current = permutation;
+    let mut done: u64 = 0;
+    while done < k {
+        let place = successor(current).place;
+        let after = push(current, place).permutation;
+        current = after;
+        let cells = current.cells;
+        let cell = wide(cells[0]);
+        counts[cell - 1] += 1;
+        done += 1;
+    }
+    Ran {
+        number: 0,
+        permutation: current,
+        counts,
+    }
+}
