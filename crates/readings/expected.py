@@ -307,6 +307,14 @@ def check_document_001(lines):
     assert exits == cycle(exits[0]) and len(exits) == 6 and [successor(order) for order in exits] == rotated + EXAMPLE_1[:1]
     assert all(on(job, order) in lines for order in exits for job in ("rank", "successor"))
 
+    # the levels over that cycle, from levels without a gap whose order is its first
+    levels = [4, 2, 1, 3]
+    assert read(levels) == FIRST
+    for _ in met:
+        assert " ".join(map(str, ["count_up 1 of", *levels])) in lines
+        levels = count_up(levels, 1)
+    assert read(levels) == FIRST and " ".join(map(str, ["read", *levels])) in lines
+
     # Example 11
     assert digits(EXAMPLE_11[0][0]) == [d for _, d in EXAMPLE_11] + [0] and all(digit(order) == d for order, d in EXAMPLE_11)
     assert [remaining(order) for order, _ in EXAMPLE_11[:-1]] == [order for order, _ in EXAMPLE_11[1:]]

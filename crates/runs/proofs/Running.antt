@@ -12,7 +12,7 @@ use Rattle.theory.specs.Run.{steps, pushCount}
 use Rattle.theory.specs.Demand3.{Demand3}
 use Rattle.theory.proofs.Cases.{by-name}
 use Rattle.theory.proofs.Counts.{delta-eq, delta-ne}
-use Rattle.theory.proofs.Permutations.{top-inside}
+use Rattle.theory.proofs.Members.{entry-inside}
 use Rattle.theory.proofs.Stepping.{stepping}
 use Rattle.theory.proofs.Demand3.{demand3}
 use Rattle.permutation.specs.Records.{listOf, recordOf, faultOf}
@@ -107,7 +107,7 @@ module _ (p : Permutation) (s : Sound p) where
           cell-is = is ∙ cell
 
           inside : (1 ≤ pushed-cell) × (pushed-cell ≤ p .n)
-          inside = let few = s .few in rw cell-is (top-inside (after (suc done)) (omega arith) (orders (suc done)))
+          inside = let few = s .few in rw cell-is (entry-inside (orders (suc done)) 0 (omega (arith, long (suc done))))
 
           count-is : getD counts (pushed-cell - 1) 0 ≡ pushCount (p .n) pushed-cell done (listOf p)
           count-is = rw (v .counted) (tally-at (p .n) (s .many) (λ c. pushCount (p .n) c done (listOf p)) _ (inside .0) (inside .1))

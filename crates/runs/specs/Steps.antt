@@ -40,7 +40,8 @@ pub record RunOf (n : ℕ) (xs : List ℕ) (k : ℕ) (ys : List ℕ) (counts : �
   pub pushes : (c : ℕ) → 1 ≤ c → c ≤ n → counts c ≡ pushCount n c k xs
   pub shares : k ≡ factorial n → (c : ℕ) → 1 ≤ c → c ≤ n → counts c ≡ factorial (n - 1)
   pub balance : (c d : ℕ) → 1 ≤ c → c ≤ n → 1 ≤ d → d ≤ n → counts c ≤ counts d + 2
-  -- a run of n! steps or more goes through a whole round, and every run is balanced after each of its steps
+  -- a run of n! steps or more goes through a whole round, and every run is balanced after each of its steps. `return`, `shares` and `balance` are what
+  -- these say of the end, in the values returned
   pub round :
       factorial n ≤ k
       → (steps n (factorial n) xs ≡ xs) × ((c : ℕ) → 1 ≤ c → c ≤ n → pushCount n c (factorial n) xs ≡ factorial (n - 1))

@@ -14,7 +14,8 @@ use Rattle.theory.specs.Rank.{rank}
 use Rattle.theory.specs.Run.{steps, pushCount}
 use Rattle.theory.proofs.Cases.{by-le}
 use Rattle.theory.proofs.Counts.{delta-self, delta-ne, count-append}
-use Rattle.theory.proofs.Permutations.{top-inside, around}
+use Rattle.theory.proofs.Permutations.{around}
+use Rattle.theory.proofs.Members.{entry-inside}
 use Rattle.theory.proofs.Factorials.{factorial-pred}
 use Rattle.theory.proofs.Splits.{place-is, rank-lt}
 use Rattle.theory.proofs.Moves.{Move, shift, lift, turn, moves}
@@ -159,7 +160,8 @@ module _ (n : ℕ) (big : 2 ≤ n) (xs : List ℕ) (o : IsPermutation n xs) wher
   count-sum zero = sum-constant (λ c. 0) 0 n (λ c low high. refl) ∙ omega arith
   count-sum (suc k) =
       let h = top (steps n (suc k) xs) in
-      let b = top-inside (steps n (suc k) xs) (omega arith) (run-permutation (suc k)) in
+      let p = run-permutation (suc k) in
+      let b = entry-inside p 0 (omega (arith, p .long)) in
       sum-add (λ c. pushCount n c k xs) (delta h) n ∙ omega (arith, count-sum k, sum-delta h n (b .0) (b .1))
 
   pub run-shares : (c : ℕ) → 1 ≤ c → c ≤ n → pushCount n c (factorial n) xs ≡ factorial (n - 1)

@@ -12,7 +12,8 @@ use Rattle.theory.specs.Levels.{level, highest, lowest, Gapless, Falls, 
 use Rattle.theory.specs.CountUp.{nextCell, countUp}
 use Rattle.theory.specs.Run.{steps, stepLevels}
 use Rattle.theory.proofs.Counts.{delta-self}
-use Rattle.theory.proofs.Permutations.{inside, top-inside, around}
+use Rattle.theory.proofs.Permutations.{inside, around}
+use Rattle.theory.proofs.Members.{entry-inside}
 use Rattle.theory.proofs.Splits.{place-is, successor-bounds}
 use Rattle.theory.proofs.Cycle.{steps-add, run-permutation}
 use Rattle.theory.proofs.Extremes.{≤lowest, level-suc, lowest≤level}
@@ -84,7 +85,8 @@ module _ (n : ℕ) (big : 2 ≤ n) (L xs : List ℕ) (size : length L ≡ n) (r 
   -- the cell that step k + 1 pushes
   cell-run : (k : ℕ) → (1 ≤ top (steps n (suc k) xs)) × (top (steps n (suc k) xs) ≤ length (stepLevels n k xs L))
   cell-run k =
-      let b = top-inside (steps n (suc k) xs) (omega arith) (permutation-run (suc k)) in
+      let p = permutation-run (suc k) in
+      let b = entry-inside p 0 (omega (arith, p .long)) in
       (b .0, omega (arith, b .1, run-length k))
 
   pub run-highest : (k : ℕ) → highest (stepLevels n k xs L) ≡ highest L + k

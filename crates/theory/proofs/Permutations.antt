@@ -5,7 +5,7 @@ use Prim.Native.Nat.{ℕ, zero, suc, _+_, _≤_, _<_}
 use native.Mathlib.Omega.{arith}
 use lib.ListN.{length, length-append, length-reverse}
 use Rattle.theory.specs.Lists.{count}
-use Rattle.theory.specs.Permutation.{IsPermutation, top}
+use Rattle.theory.specs.Permutation.{IsPermutation}
 use Rattle.theory.proofs.Cases.{by-name, by-le}
 use Rattle.theory.proofs.Counts.{delta-eq, delta-self, delta-ne, count-append, count-reverse, Split, split, Adds, adds-between, adds-reversed}
 
@@ -38,10 +38,6 @@ inside (suc m) xs o c h =
     (λ ne e.
     let i : (1 ≤ c) × (c ≤ m) = inside m (s .above ++ s .below) (removed a o) c (omega (arith, a .more c, delta-ne (suc m) c ne)) in
     (i .0, omega arith))
-
-pub top-inside : {n : ℕ} (xs : List ℕ) → 1 ≤ n → IsPermutation n xs → (1 ≤ top xs) × (top xs ≤ n)
-top-inside [] h o = absurd (omega (arith, o .long))
-top-inside {n} (x ∷ xs) h o = inside n (x ∷ xs) o x (omega (arith, delta-self x))
 
 -- a name that is no cell does not stand there
 pub absent : {n : ℕ} {xs : List ℕ} → IsPermutation n xs → (c : ℕ) → ((1 ≤ c) × (c ≤ n) → ⊥) → count c xs ≡ 0
