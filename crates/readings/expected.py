@@ -6,8 +6,8 @@ data: the model is checked against it, and `stdin` must have those readings, bef
 
     python3 crates/readings/expected.py > crates/readings/stdout
 """
-from itertools import permutations
-from math import factorial
+from itertools import islice, permutations
+from math import factorial, perm
 from pathlib import Path
 
 # The rules of document 01. An order is a list of names, place 1 first.
@@ -76,8 +76,66 @@ def count_up(levels, k):
     return levels
 
 
+def push_cell(order, cell):
+    return push(order, order.index(cell) + 1)
+
+
+def push_cells(levels, cells):
+    for cell in cells:
+        levels = push_level(levels, read(levels).index(cell) + 1)
+    return levels
+
+
+def rewrite_number(order, target):
+    """The smallest r for which the last n - r cells of the target stand in that same relative sequence now."""
+    return next(r for r in range(len(target) + 1) if [c for c in order if c in target[r:]] == target[r:])
+
+
+def rewrite_pushes(order, target):
+    """The target's cells r, r-1, ..., 1."""
+    return target[:rewrite_number(order, target)][::-1]
+
+
+def prefix_length(n, m):
+    """The smallest p with n!/(n-p)! at least m."""
+    return next(p for p in range(n + 1) if factorial(n) // factorial(n - p) >= m)
+
+
+def prefix_at(names, p, s):
+    """Prefix number s of length p over names that ascend: each name in turn leads as many as there are of length p - 1 over the others."""
+    if p == 0:
+        return []
+    first = names[s // perm(len(names) - 1, p - 1)]
+    return [first] + prefix_at([c for c in names if c != first], p - 1, s % perm(len(names) - 1, p - 1))
+
+
+def prefix_number(names, prefix):
+    if not prefix:
+        return 0
+    others = [c for c in names if c != prefix[0]]
+    return names.index(prefix[0]) * perm(len(others), len(prefix) - 1) + prefix_number(others, prefix[1:])
+
+
+def symbol_prefix(n, m, s):
+    return prefix_at([*range(1, n + 1)], prefix_length(n, m), s)
+
+
+def symbol_of(m, order):
+    return prefix_number(sorted(order), order[:prefix_length(len(order), m)])
+
+
+def store_pushes(order, prefix):
+    """The prefix cells p, p-1, ..., 1: a cell already on top is passed over, any other is pushed."""
+    cells = []
+    for cell in prefix[::-1]:
+        if order[0] != cell:
+            order = push_cell(order, cell)
+            cells.append(cell)
+    return cells
+
+
 # Why a job is sent back: the lowest of the numbers whose reason holds, 0 where none does.
-REASONS = dict(size=1, fit=2, muddle=3, tie=4, value=5, ceiling=6)
+REASONS = dict(size=1, fit=2, muddle=3, tie=4, value=5, ceiling=6, idle=7)
 
 
 def lowest(**holds):
@@ -185,6 +243,51 @@ def do_run_calls(room, calls, *lists):
     return [number, done, "|", *levels, "|", *numbers]
 
 
+def do_rewrite(room, group, *rest):
+    """Rewrite levels to a target. The pushes' names go to the start of the lent bytes, and the others keep their 9."""
+    levels, n, names, lent = rest[:group], rest[group], row([*rest[group + 1:]]), [9] * room
+    number = lowest(size=not sized(group) or not sized(n), fit=n != group or room < group - 1, muddle=not is_order(n, names), tie=level_reasons(levels)["tie"])
+    cells = [] if number else rewrite_pushes(read(levels), names[:n])
+    number = number or lowest(ceiling=over(levels, len(cells)))
+    if number:
+        return [number, 0, "|", *levels, "|", *lent]
+    return [0, len(cells), "|", *push_cells(levels, cells), "|", *cells, *lent[len(cells):]]
+
+
+def code_reasons(n, m):
+    """Size decides past n = 20, where n! is not worked out."""
+    return dict(value=n <= 20 and not 1 <= m <= factorial(n))
+
+
+def do_prefix(s, m, n):
+    number = lowest(size=not sized(n), value=code_reasons(n, m)["value"] or s >= m)
+    found = [] if number else symbol_prefix(n, m, s)
+    return [number, len(found), "|", *cut(row(found))]
+
+
+def do_store(s, m, *levels):
+    number = lowest(**level_reasons(levels), value=code_reasons(len(levels), m)["value"] or s >= m)
+    cells = [] if number else store_pushes(read(levels), symbol_prefix(len(levels), m, s))
+    number = number or lowest(ceiling=over(levels, len(cells)))
+    return [number, 0 if number else len(cells), "|", *(levels if number else push_cells(levels, cells))]
+
+
+def do_read_symbol(m, *levels):
+    number = lowest(**level_reasons(levels), **code_reasons(len(levels), m))
+    symbol = 0 if number else symbol_of(m, read(levels))
+    number = number or lowest(idle=symbol >= m)
+    return [number, 0 if number else symbol]
+
+
+def do_symbols(m, *levels):
+    """Each symbol is stored on these levels and then read."""
+    words = []
+    for s in range(m):
+        stored = do_store(s, m, *levels)
+        words += [":", *stored, ":", *do_read_symbol(m, *stored[3:])]
+    return words[1:]
+
+
 def do_walk(steps, every, n, *names):
     """Step by step. After each, the rank is the start's plus the steps, modulo n!, and the order of that rank is the one met."""
     order, start, agreed, lines = [*names], rank([*names]), 0, []
@@ -203,7 +306,8 @@ def do_walk(steps, every, n, *names):
 
 
 JOBS = dict(rank=do_rank, digits=do_digits, successor=do_successor, push=do_push, run_steps=do_run_steps, unrank=do_unrank, read=do_read,
-            push_level=do_push_level, count_up=do_count_up, run_calls=do_run_calls)
+            push_level=do_push_level, count_up=do_count_up, run_calls=do_run_calls, rewrite=do_rewrite, prefix=do_prefix, store=do_store,
+            read_symbol=do_read_symbol, symbols=do_symbols)
 
 
 def answer(line):
@@ -227,8 +331,13 @@ DIGITS = {(2, 5, 4, 3, 6, 1): [3, 1, 3, 1, 0, 0]}
 # .. and the numbers of jobs: 1 size, 4 tie, 5 value, 6 ceiling
 NUMBERS = {"unrank 1 0": 1, "unrank 21 0": 1, "unrank 2 0": 0, "unrank 20 0": 0, "unrank 3 5": 0, "unrank 3 6": 5, "read 7 7": 4,
            "count_up 5 of 65528 65530 65529": 0, "count_up 6 of 65528 65530 65529": 6}
-# Document 01, the bench sheet: levels 3, 1, 2 are counted up by 4, cell 3 is pushed, and then the levels and the rank are printed
+# Document 01, the bench sheet: each command's number and pushes; then the levels and the rank are printed
+SHEET = {"count_up 4 of 3 1 2": "0 4", "rewrite 2 bytes 3 levels 7 6 5 to 3 | 3 1 2": "0 1", "store 3 of 3 on 7 6 8": "5 0"}
 SHEET_LEVELS, SHEET_RANK = [7, 6, 8], 5
+# Document 01, bench readings: pushes of a rewrite, prefix lengths of n = 4 by m, and a prefix with its number
+REWRITE = ([1, 2, 3, 4, 5], [5, 2, 1, 3, 4], [2, 5])
+LENGTHS = {4: 1, 5: 2, 12: 2, 13: 3}
+PREFIX, PREFIX_NUMBER = [3, 1], 6
 
 # Document 001. The text at hand has no pictures: of Example 1 it has the places, of Example 9 and Fig. 2 what is said of them, of the levels in Fig. 3 no numbers.
 EXAMPLE_1 = [2, 3, 3, 2, 3, 3]
@@ -240,6 +349,10 @@ SECOND_ROW, LAST_ROWS = [2, 4, 1, 2, 1, 4], [3] * 6 + [1] * 6
 FIRST = [1, 4, 2, 3]
 # Example 11: the permutation and its residual ones, each with the digit that is read from it
 EXAMPLE_11 = [([2, 5, 4, 3, 6, 1], 3), ([3, 4, 5, 2, 1], 1), ([4, 3, 1, 2], 3), ([2, 1, 3], 1), ([1, 2], 0)]
+# Definition 13: the cost of changing one permutation into another
+COSTS = [([1, 2, 3], [2, 1, 3], 1), ([1, 2, 3], [3, 2, 1], 2)]
+# Example 20: three symbols of n = 3, each with the permutations that are read as it
+EXAMPLE_20 = {1: ([1, 2, 3], [1, 3, 2]), 2: ([2, 1, 3], [2, 3, 1]), 3: ([3, 1, 2], [3, 2, 1])}
 
 
 def pushes(order, places):
@@ -263,6 +376,26 @@ def rank_zero(n):
     return [1, *range(n, 1, -2), *[*range(n - 1, 1, -2)][::-1]]
 
 
+def costs(order):
+    """The least number of pushes to each order, found by trying all rows of pushes, the shorter ones first."""
+    found, last = {tuple(order): 0}, [order]
+    for cost in range(1, len(order)):
+        last = [push(met, i) for met in last for i in range(2, len(order) + 1)]
+        for after in last:
+            found.setdefault(tuple(after), cost)
+    return found
+
+
+def gapless(order):
+    """Levels n to 1 along the order."""
+    return [len(order) - order.index(c) for c in range(1, len(order) + 1)]
+
+
+def rewrites(order, target):
+    """A line of the input that rewrites levels of this order without a gap, in as many bytes as a rewrite may need."""
+    return " ".join(map(str, ["rewrite", len(order) - 1, "bytes", len(order), "levels", *gapless(order), "to", *record(target)]))
+
+
 def on(job, order):
     return " ".join(map(str, [job, *record([*order])]))
 
@@ -279,8 +412,36 @@ def check_document_01(lines):
         assert digits([*order]) == row and on("digits", order) in lines
     for line, number in NUMBERS.items():
         assert answer(line).split(" : ")[1].split()[0] == str(number) and line in lines
-    assert answer("count_up 4 of 3 1 2") == "count_up 4 of 3 1 2 : 0 4 | 7 6 5" and push_level([7, 6, 5], 3) == SHEET_LEVELS
-    assert rank(read(SHEET_LEVELS)) == SHEET_RANK and {"count_up 4 of 3 1 2", "push_level 3 of 7 6 5", on("rank", read(SHEET_LEVELS))} <= lines
+    for line, printed in SHEET.items():
+        assert answer(line).split(" : ")[1].split(" |")[0] == printed and line in lines
+    assert count_up([3, 1, 2], 4) == [7, 6, 5] and push_cells([7, 6, 5], rewrite_pushes(read([7, 6, 5]), [3, 1, 2])) == SHEET_LEVELS
+    assert rank(read(SHEET_LEVELS)) == SHEET_RANK and on("rank", read(SHEET_LEVELS)) in lines
+    start, target, cells = REWRITE
+    assert rewrite_pushes(start, target) == cells and "rewrite 6 bytes 5 levels 50 40 30 20 10 to 5 | 5 2 1 3 4" in lines
+    for m, p in LENGTHS.items():
+        assert prefix_length(4, m) == p and f"prefix {m - 1} of {m} on 4" in lines
+    assert [*permutations(range(1, 5), 2)][PREFIX_NUMBER] == (*PREFIX,) and symbol_prefix(4, 12, PREFIX_NUMBER) == PREFIX
+    assert symbol_of(12, PREFIX + [2, 4]) == PREFIX_NUMBER and {"prefix 6 of 12 on 4", "read_symbol 12 on 3 2 4 1"} <= lines
+
+
+def check_symbols(lines):
+    # prefixes are numbered in lexicographic sequence; what was stored is read, and the prefix leads, the other cells in their old sequence
+    for n in range(2, 7):
+        for p in range(n + 1):
+            all_prefixes = [[*prefix] for prefix in permutations(range(1, n + 1), p)]
+            assert all_prefixes == [prefix_at([*range(1, n + 1)], p, s) for s in range(perm(n, p))]
+            assert all(prefix_number([*range(1, n + 1)], prefix) == s for s, prefix in enumerate(all_prefixes))
+    for p in range(21):
+        for s, prefix in enumerate(islice(permutations(range(1, 21), p), 1000)):
+            assert prefix_at([*range(1, 21)], p, s) == [*prefix] and prefix_number([*range(1, 21)], [*prefix]) == s
+    for m in (1, 4, 5, 12, 13, 24):
+        for order in permutations([1, 2, 3, 4]):
+            levels = gapless([*order])
+            assert " ".join(map(str, ["symbols", m, "on", *levels])) in lines
+            for s in range(m):
+                prefix = symbol_prefix(4, m, s)
+                after = read(push_cells(levels, store_pushes([*order], prefix)))
+                assert after == prefix + [c for c in order if c not in prefix] and symbol_of(m, after) == s
 
 
 def check_document_001(lines):
@@ -320,6 +481,23 @@ def check_document_001(lines):
     assert [remaining(order) for order, _ in EXAMPLE_11[:-1]] == [order for order, _ in EXAMPLE_11[1:]]
     assert all(on(job, order) in lines for order, _ in EXAMPLE_11 for job in ("digits", "rank"))
 
+    # Definition 13, and Lemma 15: n!/(n-r)! permutations are within r pushes
+    for start, target, cost in COSTS:
+        assert costs(start)[tuple(target)] == cost == rewrite_number(start, target) and rewrites(start, target) in lines
+    for n in range(2, 6):
+        found = costs([*range(1, n + 1)])
+        assert len(found) == factorial(n) and all(rewrite_number([*range(1, n + 1)], [*target]) == cost for target, cost in found.items())
+        assert all(sum(cost <= r for cost in found.values()) == factorial(n) // factorial(n - r) for r in range(n))
+    assert all(rewrites([1, 2, 3, 4], [*target]) in lines for target in permutations([1, 2, 3, 4]))
+
+    # Example 20: "The cost of any rewrite operation is at most 1."
+    assert prefix_length(3, 3) == 1
+    for symbol, orders in EXAMPLE_20.items():
+        for order in orders:
+            assert symbol_of(3, order) == symbol - 1 and " ".join(map(str, ["read_symbol 3 on", *gapless(order)])) in lines
+            assert all(len(store_pushes(order, symbol_prefix(3, 3, s))) <= 1 for s in range(3))
+            assert " ".join(map(str, ["symbols 3 on", *gapless(order)])) in lines
+
     # Section III-C: the order of rank 0. And for few cells, that ranks, orders and steps are one to one
     for n in range(2, 21):
         assert unrank(n, 0) == rank_zero(n) and {f"unrank {n} 0", on("rank", rank_zero(n))} <= lines
@@ -332,5 +510,6 @@ def check_document_001(lines):
 lines = Path(__file__).with_name("stdin").read_text().splitlines()
 check_document_01({*lines})
 check_document_001({*lines})
+check_symbols({*lines})
 for line in lines:
     print(answer(line))

@@ -9,13 +9,11 @@ use Rattle.theory.specs.Push.{push}
 use Rattle.theory.specs.Successor.{successor}
 use Rattle.theory.specs.Levels.{permutationOf, pushLevel}
 use Rattle.theory.specs.CountUp.{nextCell, countUp}
-use Rattle.theory.specs.Claims.{Padding}
-use Rattle.theory.proofs.Padding.{padding}
 use Rattle.theory.proofs.Splits.{successor-bounds}
-use Rattle.theory.proofs.Sorting.{permutationOf-length}
 use Rattle.theory.proofs.Reading.{reading}
 use Rattle.permutation.proofs.Rows.{push-row}
 use Rattle.charge.specs.Counting.{Ready}
+use Rattle.charge.proofs.Sorting.{row-long, row-first}
 use Rattle.charge.proofs.Pushing.{StandsAt, stands-at, stands-push}
 
 -- a count by k that began at the levels `first` and ends at the level `last`
@@ -37,14 +35,11 @@ module _ {first : List ℕ} {k last : ℕ} {L cells : List ℕ} {top : ℕ} (v :
       let e : last - top ≡ 0 = omega arith in
       rw e at (v .left)
 
-  padded : Padding (permutationOf L)
-  padded = padding (permutationOf L) (omega (arith, permutationOf-length L, v .ready .many))
-
   pub long : length cells ≡ 20
-  long = rw (v .ready .cells-are) (padded .long)
+  long = row-long L (v .ready .many) (v .ready .cells-are)
 
   cells-first : take (length first) cells ≡ permutationOf L
-  cells-first = rw (← v .size, ← permutationOf-length L, v .ready .cells-are) (padded .first)
+  cells-first = rw (← v .size) (row-first L (v .ready .many) (v .ready .cells-are))
 
   -- the step pushes at the place that is the successor of the row
   module _ {place : ℕ} (e : place ≡ successor (length first) (take (length first) cells)) where

@@ -5,7 +5,6 @@ use mathlib.Core.List.{List}
 use Prim.Native.Nat.{ℕ, _+_, _≤_, _<_}
 use native.Mathlib.Omega.{arith}
 use borrow.Author.Tests.{le-leb, lt-leb, ne-eqb}
-use lib.Dec.{eqb}
 use lib.ListN.{length}
 use Rattle.theory.specs.Reasons.{done, size, tie, value, ceiling, sized, maxLevel}
 use Rattle.theory.specs.Permutation.{cellAt, row}
@@ -16,7 +15,7 @@ use Rattle.theory.proofs.Sorting.{permutationOf-length}
 use Rattle.theory.proofs.Calls.{calling}
 use Rattle.permutation.specs.declared.answers.Permuted.{Permuted}
 use Rattle.permutation.specs.Answers.{refused}
-use Rattle.permutation.proofs.Answering.{permuted-done, permuted-refused}
+use Rattle.permutation.proofs.Answering.{permuted-done, permuted-refused, orElse-refused}
 use Rattle.charge.specs.declared.answers.Pushes.{Pushes}
 use Rattle.charge.specs.Answers.{readNumber, reading, placeNumber, placePushes, placeLevels, counted}
 
@@ -64,16 +63,13 @@ read-sorted {L} r e =
 
 -- the levels' fault is the number of every job on them
 module _ (L : List ℕ) {number : ℕ} (e : number ≡ readNumber L) (ne : number ≡ 0 → ⊥) where
-  faulty : eqb (readNumber L) 0 ≡ false
-  faulty = ne-eqb (readNumber L) 0 (λ z. ne (e ∙ z))
-
   pub fault-read : refused number ≡ reading L
   unfolding reading
   fault-read = permuted-refused (readNumber L) number (permutationOf L) (sym e) ne
 
   pub fault-place : (i : ℕ) → number ≡ placeNumber L i
   unfolding placeNumber
-  fault-place i = rw (faulty, e)
+  fault-place i = orElse-refused (readNumber L) _ e ne
 
   pub fault-call : (k : ℕ) → number ≡ callNumber k L
   unfolding readNumber callNumber

@@ -3,9 +3,10 @@ use mathlib.Core.Path.{_≡_, ap, _∙_}
 use mathlib.Core.List.{List}
 use Prim.Native.Nat.{ℕ, _+_, _-_, _≤_}
 use native.Mathlib.Omega.{arith}
-use lib.ListN.{length, set, replicate, List·getD-append}
+use lib.ListN.{length, set}
 use Rattle.theory.specs.Permutation.{row, cellAt}
 use Rattle.theory.specs.Levels.{highest, permutationOf, pushLevel}
+use Rattle.theory.proofs.Padding.{row-at}
 use Rattle.theory.proofs.Members.{entry-inside}
 use Rattle.theory.proofs.Sorting.{permutationOf-permutation, permutationOf-length}
 
@@ -20,7 +21,7 @@ pub stands-at : (L : List ℕ) (i : ℕ) {cells : List ℕ} {c : ℕ} → 1 ≤ 
 stands-at L i {cells} {c} low high row-is e =
     let size = permutationOf-length L in
     let is : c ≡ cellAt i (permutationOf L) =
-    e ∙ ap (cellAt i) row-is ∙ List·getD-append (permutationOf L) (replicate (20 - length (permutationOf L)) 0) 0 (i - 1) (omega arith) in
+    e ∙ ap (cellAt i) row-is ∙ row-at (permutationOf L) (i - 1) (omega arith) in
     let b = entry-inside (permutationOf-permutation L) (i - 1) (omega arith) in
     record { is = is; low = rw is (b .0); high = rw is (b .1) }
 

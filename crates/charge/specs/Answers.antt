@@ -2,16 +2,20 @@
 -- Assumes nothing.
 use mathlib.Core.Bool.{cond, _&&_}
 use mathlib.Core.List.{List}
-use Prim.Native.Nat.{ℕ, _+_}
-use lib.Dec.{eqb, leb}
+use Prim.Native.Nat.{ℕ}
+use lib.Dec.{leb}
 use lib.ListN.{length}
-use Rattle.theory.specs.Reasons.{done, size, tie, value, ceiling, sized, maxLevel}
+use Rattle.theory.specs.Reasons.{done, size, tie, value, sized}
 use Rattle.theory.specs.Permutation.{cellAt}
-use Rattle.theory.specs.Levels.{highest, tied, permutationOf, pushLevel}
-use Rattle.theory.specs.CountUp.{callNumber, callPushes}
-use Rattle.permutation.specs.Answers.{given, permuted}
+use Rattle.theory.specs.Levels.{tied, permutationOf, pushLevel}
+use Rattle.theory.specs.CountUp.{ceilingOf, callNumber, callPushes}
+use Rattle.permutation.specs.Answers.{given, orElse, permuted}
 use Rattle.permutation.specs.declared.answers.Permuted.{Permuted}
 use Rattle.charge.specs.declared.answers.Pushes.{Pushes}
+
+-- a job that pushes: how many pushes, or 0 where it is refused
+abbrev pub pushesOf : ℕ → ℕ → Pushes
+pushesOf number k = record { number = number; pushes = given number k 0 }
 
 -- why the permutation of levels is not read: size, then tie
 unfoldable pub readNumber : List ℕ → ℕ
@@ -21,14 +25,13 @@ readNumber L = cond (sized (length L)) (cond (tied L) tie done) size
 unfoldable pub reading : List ℕ → Permuted
 reading L = permuted (readNumber L) (permutationOf L)
 
--- a push at place i, 2 to n. "Where several hold, the lowest number is given": size, tie, value, then ceiling, "top level plus the job's pushes exceeds 65,535"
+-- a push at place i, 2 to n: size, tie, value, then ceiling
 unfoldable pub placeNumber : List ℕ → ℕ → ℕ
-placeNumber L i =
-    cond (eqb (readNumber L) done) (cond (leb 2 i && leb i (length L)) (cond (leb (highest L + 1) maxLevel) done ceiling) value) (readNumber L)
+placeNumber L i = orElse (readNumber L) (cond (leb 2 i && leb i (length L)) (ceilingOf L 1) value)
 
 -- a push is one push
 unfoldable pub placePushes : List ℕ → ℕ → Pushes
-placePushes L i = record { number = placeNumber L i; pushes = given (placeNumber L i) 1 0 }
+placePushes L i = pushesOf (placeNumber L i) 1
 
 -- "On levels, that cell's level becomes the old top level plus 1 and no other changes."
 unfoldable pub placeLevels : List ℕ → ℕ → List ℕ

@@ -37,7 +37,7 @@ pub fn tied(levels: &[u16]) -> bool
     false
 }
 
-// SIZE, TIE, or 0 for levels that have a permutation.
+// SIZE, TIE, or 0 for levels that have a permutation. For other crates too.
 pub fn fault(levels: &[u16]) -> u8
     ensures { λ r. ⌜ r ≡ readNumber (now (levels .entry)) ⌝ }
 {
@@ -53,6 +53,7 @@ pub fn fault(levels: &[u16]) -> u8
     0
 }
 
+// For other crates too.
 pub fn highest(levels: &[u16]) -> u16
     ensures { λ r. ⌜ r ≡ meaning.highest (now (levels .entry)) ⌝ }
 {

@@ -5,4 +5,4 @@ pub mod count_up; // k next steps
 pub mod judge; // size and tie, and the highest level
 pub mod push_level; // one push
 pub mod read; // the permutation of levels
-mod sort; // cells sorted by level
+pub mod sort; // cells sorted by level

@@ -10,14 +10,22 @@ use Rattle.theory.specs.Reasons.{value}
 use Rattle.theory.specs.Permutation.{IsPermutation}
 use Rattle.theory.specs.Push.{push}
 use Rattle.theory.specs.Successor.{successor}
+use Rattle.theory.proofs.Cases.{by-name}
 use Rattle.theory.proofs.Padding.{padding}
 use Rattle.theory.proofs.Stepping.{push-permutation}
 use Rattle.permutation.specs.Records.{listOf, recordOf, faultOf}
-use Rattle.permutation.specs.Answers.{permuted, refused, pushNumber, pushed, placed}
+use Rattle.permutation.specs.Answers.{given, orElse, permuted, refused, pushNumber, pushed, placed}
 use Rattle.permutation.specs.declared.answers.Permutation.{Permutation}
 use Rattle.permutation.specs.declared.answers.Permuted.{Permuted}
 use Rattle.permutation.proofs.Records.{Sound, fault-record}
 use Rattle.permutation.proofs.Rows.{push-row}
+
+-- what is given, by the number
+pub given-done : {A : Type 0} (number : ℕ) (a z : A) → number ≡ 0 → given number a z ≡ a
+given-done number a z e = rw e
+
+pub given-refused : {A : Type 0} (number : ℕ) (a z : A) → (number ≡ 0 → ⊥) → given number a z ≡ z
+given-refused number a z ne = rw (ne-eqb number 0 ne)
 
 -- a job that was to answer a permutation
 pub permuted-done : (number : ℕ) (xs : List ℕ) (p : Permutation) → number ≡ 0 → p ≡ recordOf xs
@@ -27,11 +35,18 @@ permuted-done number xs p h e = rw (h, e)
 pub permuted-refused : (number k : ℕ) (xs : List ℕ) → number ≡ k → (k ≡ 0 → ⊥) → refused k ≡ permuted number xs
 permuted-refused number k xs e h = rw (e, ne-eqb k 0 h)
 
+-- one of two reasons
+pub orElse-refused : {number : ℕ} (a b : ℕ) → number ≡ a → (number ≡ 0 → ⊥) → number ≡ orElse a b
+orElse-refused {number} a b e ne = rw (← e, ne-eqb number 0 ne)
+
+pub orElse-done : (a b : ℕ) → orElse a b ≡ 0 → (a ≡ 0) × (b ≡ 0)
+orElse-done a b h = by-name a 0 (λ q e. (q, rw e at h)) (λ ne e. absurd (ne (rw e at h)))
+
 -- ---- push
 module _ (p : Permutation) (i : ℕ) where
   pub push-fault : (k : ℕ) → k ≡ faultOf p → (k ≡ 0 → ⊥) → refused k ≡ pushed p i
   unfolding pushed pushNumber
-  push-fault k e h = permuted-refused _ k (push i (listOf p)) (rw (← e, ne-eqb k 0 h)) h
+  push-fault k e h = permuted-refused _ k (push i (listOf p)) (sym (orElse-refused (faultOf p) _ e h)) h
 
   pub push-outside : faultOf p ≡ 0 → (i < 2) ⊎ ((2 ≤ i) × (p .n < i)) → refused value ≡ pushed p i
   unfolding pushed pushNumber

@@ -47,6 +47,11 @@ under-suc c (x ∷ xs) =
     (λ l. rw (le-ltb x c (omega arith), le-ltb x (suc c) l) (omega (arith, under-suc c xs, delta-ne x c (λ e. omega arith))))
     (λ e. rw (le-ltb x c (omega arith), lt-ltb x (suc c) (omega arith)) (omega (arith, under-suc c xs, delta-eq x c e)))
 
+pub under-zero : (xs : List ℕ) → under 0 xs ≡ 0
+unfolding under
+under-zero [] = refl
+under-zero (x ∷ xs) = rw (le-ltb x 0 (omega arith)) (omega (arith, under-zero xs))
+
 under-all : (c : ℕ) (xs : List ℕ) → ((x : ℕ) → 1 ≤ count x xs → x < c) → under c xs ≡ length xs
 unfolding under
 under-all c [] h = refl

@@ -22,6 +22,10 @@ use Rattle.permutation.specs.declared.answers.Ranked.{Ranked}
 abbrev pub given {ℓ} : {A : Type ℓ} → ℕ → A → A → A
 given number a z = cond (eqb number done) a z
 
+-- "Where several hold, the lowest number is given": this one unless it is done, and then the next
+abbrev pub orElse : ℕ → ℕ → ℕ
+orElse number next = given number next number
+
 -- a job that gives a permutation: its record, or that of no cells, which is all zeros
 abbrev pub permuted : ℕ → List ℕ → Permuted
 permuted number xs = record { number = number; permutation = recordOf (given number xs []) }
@@ -29,9 +33,9 @@ permuted number xs = record { number = number; permutation = recordOf (given num
 abbrev pub refused : ℕ → Permuted
 refused number = record { number = number; permutation = recordOf [] }
 
--- "push place outside 2 to n" is value. "Where several hold, the lowest number is given": size and muddle come first
+-- "push place outside 2 to n" is value; size and muddle come first
 unfoldable pub pushNumber : Permutation → ℕ → ℕ
-pushNumber p i = cond (eqb (faultOf p) done) (cond (leb 2 i && leb i (p .n)) done value) (faultOf p)
+pushNumber p i = orElse (faultOf p) (cond (leb 2 i && leb i (p .n)) done value)
 
 -- "Push at place i, 2 to n: the cell there moves to place 1, and those above it move down one."
 unfoldable pub pushed : Permutation → ℕ → Permuted

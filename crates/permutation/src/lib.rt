@@ -9,4 +9,4 @@ pub mod rank; // the rank
 pub mod reasons; // why a job is refused
 pub mod successor; // the place that the next step pushes
 pub mod unrank; // the permutation of a rank
-mod validity; // is a record a permutation, and each cell's spot
+pub mod validity; // is a record a permutation, and each cell's spot

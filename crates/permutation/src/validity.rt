@@ -79,6 +79,7 @@ pub struct Checked {
     pub spots: [u8; 21],
 }
 
+// For other crates too. Where there is a number, nothing is said of the spots.
 pub fn check(permutation: Permutation) -> Checked
     ensures { λ r. ⌜ Checks permutation (r .number) (r .spots) ⌝ }
 {

@@ -1,6 +1,10 @@
 // The jobs on levels: what each gives, its number first, and the lent lists as it left them.
+ghost use Prim.Native.Nat.{_≤_};
+use super::line::COUNT_UP;
 use super::line::PUSH_LEVEL;
 use super::line::READ;
+use super::line::READ_SYMBOL;
+use super::line::STORE;
 use super::numbers::Numbers;
 use super::numbers::counts_from;
 use super::numbers::levels_from;
@@ -16,33 +20,51 @@ use charge::answers::Pushes;
 use charge::count_up::count_up;
 use charge::push_level::push_level;
 use charge::read::read;
+use rewriting::answers::Symbol;
+use rewriting::read_symbol::read_symbol;
+use rewriting::store::store;
 use runs::calls::run_calls;
 
 // The number, the pushes done, and the levels left.
-fn left(text: &mut Text, at: usize, answer: Pushes, list: &[u16]) -> usize {
+pub fn left(text: &mut Text, at: usize, answer: Pushes, list: &[u16]) -> usize {
     let mut to = number(text, at, answer.number);
     to = field(text, to, answer.pushes as u64);
     to = mark(text, to, b'|');
     levels(text, to, list)
 }
 
-fn pushes(job: u8, k: u64, list: &mut [u16]) -> Pushes {
-    if job == PUSH_LEVEL {
-        push_level(list, k as usize)
-    } else {
-        count_up(list, narrow32(k))
+// And the bytes that were lent beside the levels.
+pub fn left_bytes(text: &mut Text, at: usize, answer: Pushes, list: &[u16], lent: &[u8]) -> usize {
+    let mut to = left(text, at, answer, list);
+    to = mark(text, to, b'|');
+    bytes(text, to, lent)
+}
+
+pub fn decoded(text: &mut Text, at: usize, answer: Symbol) -> usize {
+    let to = number(text, at, answer.number);
+    field(text, to, answer.symbol)
+}
+
+// a and b are the line's first two numbers: for a store the symbol, and how many there are.
+fn pushes(job: u8, a: u64, b: u64, list: &mut [u16]) -> Pushes {
+    match job {
+        PUSH_LEVEL => push_level(list, a as usize),
+        COUNT_UP => count_up(list, narrow32(a)),
+        _ => store(list, b, a),
     }
 }
 
-fn on_list(text: &mut Text, at: usize, job: u8, k: u64, list: &mut [u16]) -> usize {
+fn on_list(text: &mut Text, at: usize, job: u8, a: u64, b: u64, list: &mut [u16]) -> usize {
     if job == READ {
         return permuted(text, at, read(list));
     }
-    let answer = pushes(job, k, list);
+    if job == READ_SYMBOL {
+        return decoded(text, at, read_symbol(list, a));
+    }
+    let answer = pushes(job, a, b, list);
     left(text, at, answer, list)
 }
 
-// The bytes that were lent for the numbers of the calls come last.
 fn called(
     text: &mut Text,
     at: usize,
@@ -51,22 +73,37 @@ fn called(
     numbers: &mut [u8],
 ) -> usize {
     let answer = run_calls(list, counts, numbers);
-    let mut to = left(text, at, answer, list);
-    to = mark(text, to, b'|');
-    bytes(text, to, numbers)
+    left_bytes(text, at, answer, list, numbers)
 }
 
-// A number and then levels; for `read` levels alone.
+// How many numbers stand before the levels.
+fn before(job: u8) -> usize
+    ensures { λ r. ⌜ r ≤ 2 ⌝ }
+{
+    match job {
+        READ => 0,
+        STORE => 2,
+        _ => 1,
+    }
+}
+
 pub fn on_levels(text: &mut Text, at: usize, job: u8, numbers: &Numbers, count: usize) -> usize {
     let mut list = levels_from(numbers);
-    let first = if job == READ { 0 } else { 1 };
+    let first = before(job);
     if count < first {
         return at;
     }
     if 64 < count {
         return at;
     }
-    on_list(text, at, job, numbers[0], &mut list[first..count])
+    on_list(
+        text,
+        at,
+        job,
+        numbers[0],
+        numbers[1],
+        &mut list[first..count],
+    )
 }
 
 // How many bytes are lent for the calls' numbers, each 9 at first; how many calls; their counts; then levels.

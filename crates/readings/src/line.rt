@@ -9,6 +9,9 @@ use super::level_jobs::on_levels;
 use super::numbers::Numbers;
 use super::numbers::read_numbers;
 use super::numbers::record_from;
+use super::rewriting_jobs::on_prefix;
+use super::rewriting_jobs::on_rewrite;
+use super::rewriting_jobs::on_symbols;
 use super::text::Text;
 use super::text::permuted;
 use super::text::put;
@@ -37,30 +40,65 @@ pub const READ: u8 = 8;
 
 pub const PUSH_LEVEL: u8 = 9;
 
-const COUNT_UP: u8 = 10;
+pub const COUNT_UP: u8 = 10;
 
-const RUN_CALLS: u8 = 11;
+pub const STORE: u8 = 11;
 
-const NO_JOB: u8 = 12;
+pub const READ_SYMBOL: u8 = 12;
 
-// The first letter of the word tells the job, but for push and push_level, and for rank, read, run_steps and run_calls.
+const RUN_CALLS: u8 = 13;
+
+const REWRITE: u8 = 14;
+
+const SYMBOLS: u8 = 15;
+
+const PREFIX: u8 = 16;
+
+const NO_JOB: u8 = 17;
+
+fn job_of_p(second: u8, fifth: u8) -> u8 {
+    if second == b'r' {
+        return PREFIX;
+    }
+    if fifth == b'_' { PUSH_LEVEL } else { PUSH }
+}
+
+fn job_of_re(third: u8, fifth: u8) -> u8 {
+    if third == b'w' {
+        return REWRITE;
+    }
+    if fifth == b'_' { READ_SYMBOL } else { READ }
+}
+
+fn job_of_r(second: u8, third: u8, fifth: u8) -> u8 {
+    match second {
+        b'a' => RANK,
+        b'e' => job_of_re(third, fifth),
+        _ => if fifth == b's' { RUN_STEPS } else { RUN_CALLS },
+    }
+}
+
+fn job_of_s(second: u8) -> u8 {
+    match second {
+        b't' => STORE,
+        b'y' => SYMBOLS,
+        _ => SUCCESSOR,
+    }
+}
+
+// The first letter of the word tells the job, but for those on p, r and s.
 fn job_of(line: &[u8]) -> u8 {
     if line.len() < 5 {
         return NO_JOB;
     }
-    let fifth = line[4];
     match line[0] {
         b'd' => DIGITS,
-        b's' => SUCCESSOR,
         b'u' => UNRANK,
         b'w' => WALK,
         b'c' => COUNT_UP,
-        b'p' => if fifth == b'_' { PUSH_LEVEL } else { PUSH },
-        b'r' => match line[1] {
-            b'a' => RANK,
-            b'e' => READ,
-            _ => if fifth == b's' { RUN_STEPS } else { RUN_CALLS },
-        },
+        b'p' => job_of_p(line[1], line[4]),
+        b'r' => job_of_r(line[1], line[2], line[4]),
+        b's' => job_of_s(line[1]),
         _ => NO_JOB,
     }
 }
@@ -102,10 +140,13 @@ fn reply(text: &mut Text, at: usize, job: u8, numbers: &Numbers, count: usize) -
         let permutation = record_from(numbers, before(job));
         return on_permutation(text, at, job, numbers[0], numbers[1], permutation);
     }
-    if job == RUN_CALLS {
-        return on_calls(text, at, numbers, count);
+    match job {
+        RUN_CALLS => on_calls(text, at, numbers, count),
+        REWRITE => on_rewrite(text, at, numbers),
+        SYMBOLS => on_symbols(text, at, numbers[0], numbers, count),
+        PREFIX => on_prefix(text, at, numbers),
+        _ => on_levels(text, at, job, numbers, count),
     }
-    on_levels(text, at, job, numbers, count)
 }
 
 // The text has the line already. Its newline gives way to the reply; a line without a job stays as it is.

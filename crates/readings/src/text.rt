@@ -92,12 +92,13 @@ fn filled(cells: &[u8]) -> usize
     m
 }
 
-fn row(text: &mut Text, at: usize, cells: &[u8]) -> usize {
+// A row, without the zeros at its end.
+pub fn row(text: &mut Text, at: usize, cells: &[u8]) -> usize {
     let m = filled(cells);
     bytes(text, at, &cells[0..m])
 }
 
-// A record: n and the row, without the zeros at its end.
+// A record: n and the row.
 pub fn record(text: &mut Text, at: usize, permutation: Permutation) -> usize {
     let cells = permutation.cells;
     let mut to = field(text, at, permutation.n as u64);

@@ -5,11 +5,12 @@ use Prim.Native.Nat.{ℕ, zero, suc, _+_, _-_, _≤_}
 use native.Mathlib.Omega.{arith}
 use native.Mathlib.Numerals.{add-one}
 use borrow.Author.Tests.{ne-eqb}
-use lib.ListN.{length, getD, set, replicate, List·getD-append}
+use lib.ListN.{length, getD, set, replicate}
 use Rattle.theory.specs.Permutation.{IsPermutation, row, top}
 use Rattle.theory.specs.Successor.{successor, step}
 use Rattle.theory.specs.Run.{steps, pushCount}
 use Rattle.theory.specs.Demand3.{Demand3}
+use Rattle.theory.proofs.Padding.{row-at}
 use Rattle.theory.proofs.Cases.{by-name}
 use Rattle.theory.proofs.Counts.{delta-eq, delta-ne}
 use Rattle.theory.proofs.Members.{entry-inside}
@@ -100,7 +101,7 @@ module _ (p : Permutation) (s : Sound p) where
         at′ = e ∙ next-record
 
         cell : getD (current′ .cells) 0 0 ≡ top (after (suc done))
-        cell = ap (λ (c : Permutation). getD (c .cells) 0 0) at′ ∙ List·getD-append (after (suc done)) _ 0 0 (let few = s .few in omega (arith, long (suc done)))
+        cell = ap (λ (c : Permutation). getD (c .cells) 0 0) at′ ∙ row-at (after (suc done)) 0 (let few = s .few in omega (arith, long (suc done)))
 
         module _ (pushed-cell : ℕ) (is : pushed-cell ≡ getD (current′ .cells) 0 0) where
           cell-is : pushed-cell ≡ top (after (suc done))

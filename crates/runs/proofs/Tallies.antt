@@ -3,10 +3,11 @@ use mathlib.Core.Path.{_≡_, refl, sym, ap, ap₂, _∙_}
 use mathlib.Core.List.{List, _∷_, _++_, map}
 use Prim.Native.Nat.{ℕ, zero, suc, _+_, _-_, _≤_, _<_}
 use native.Mathlib.Omega.{arith}
-use lib.ListN.{length, getD, set, replicate, replicate-append-replicate, length-map, List·getD-append}
+use lib.ListN.{length, getD, set, replicate, replicate-append-replicate, length-map}
 use lib.Seq.{set-append-left}
 use Rattle.theory.specs.Lists.{namesFrom, names}
 use Rattle.theory.specs.Permutation.{row}
+use Rattle.theory.proofs.Padding.{row-at}
 use Rattle.theory.proofs.Cases.{by-name}
 use Rattle.theory.proofs.Names.{names-length}
 
@@ -50,7 +51,7 @@ module _ (n : ℕ) (few : n ≤ 20) where
   -- the entry of cell c
   pub tally-at : (f : ℕ → ℕ) (c : ℕ) → 1 ≤ c → c ≤ n → getD (row (map f (names n))) (c - 1) 0 ≡ f c
   tally-at f c low high =
-      List·getD-append (map f (names n)) _ 0 (c - 1) (omega (arith, map-long f n)) ∙ at-name f 1 n c low (omega arith)
+      row-at (map f (names n)) (c - 1) (omega (arith, map-long f n)) ∙ at-name f 1 n c low (omega arith)
 
   -- one entry is changed
   pub tally-set : (f g : ℕ → ℕ) (c v : ℕ) → 1 ≤ c → c ≤ n → v ≡ g c → ((d : ℕ) → (d ≡ c → ⊥) → f d ≡ g d)

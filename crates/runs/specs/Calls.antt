@@ -12,6 +12,7 @@ use Rattle.theory.specs.CountUp.{countUp, callLevels}
 use Rattle.theory.specs.Run.{steps, pushCount, stepLevels, afterCalls, callNumbers, stepsDone}
 use Rattle.theory.specs.Demand3.{Done, Refused}
 use Rattle.permutation.specs.Answers.{given}
+use Rattle.charge.specs.Answers.{pushesOf}
 use Rattle.charge.specs.declared.answers.Pushes.{Pushes}
 use Rattle.runs.specs.Steps.{RunOf}
 
@@ -21,7 +22,7 @@ callsNumber ks numbers = cond (leb (length ks) (length numbers)) done fit
 
 -- the pushes of all calls together
 unfoldable pub called : List ℕ → List ℕ → List ℕ → Pushes
-called L ks numbers = record { number = callsNumber ks numbers; pushes = given (callsNumber ks numbers) (stepsDone ks L) 0 }
+called L ks numbers = pushesOf (callsNumber ks numbers) (stepsDone ks L)
 
 -- "Each count-up call gets the list as the last one left it"
 unfoldable pub calledLevels : List ℕ → List ℕ → List ℕ → List ℕ

@@ -1,7 +1,7 @@
 -- Factorials are positive, those up to 20! fit 64 bits, and falling factorials are their quotients. Assumes nothing.
 use mathlib.Core.Path.{_≡_, refl, ap, sym, _∙_}
 use Prim.Native.Nat.{ℕ, zero, suc, _-_, _*_, _/_, _≤_}
-use native.Mathlib.Nat.{le-of-suc-le-suc, mul-assoc, mul-le-mul-left, mul-le-mul-right, div-eq-of-eq-mul-left}
+use native.Mathlib.Nat.{le-of-suc-le-suc, mul-assoc, mul-le-mul-left, mul-le-mul-right, div-eq-of-eq-mul-left, div-le-self}
 use native.Mathlib.Omega.{arith}
 use Rattle.theory.specs.Factorial.{factorial, falling}
 use Rattle.theory.specs.Claims.{Factorials}
@@ -21,6 +21,10 @@ factorial-grows zero n h = factorial-pos n
 factorial-grows (suc m) zero h = absurd (omega arith)
 factorial-grows (suc m) (suc n) h =
     omega (arith, mul-le-mul-left (suc m) (factorial-grows m n (le-of-suc-le-suc h)), mul-le-mul-right (factorial n) h)
+
+pub falling-pos : (n p : ℕ) → p ≤ n → 1 ≤ falling n p
+falling-pos n zero l = omega arith
+falling-pos n (suc p) l = omega (arith, mul-le-mul-left n (falling-pos (n - 1) p (omega arith)))
 
 falling-factorial : (n p : ℕ) → p ≤ n → falling n p * factorial (n - p) ≡ factorial n
 falling-factorial n zero l = let q : n - 0 ≡ n = omega arith in rw q (omega arith)
@@ -42,4 +46,5 @@ factorials = record {
   twenty = refl;
   fits = λ n h. omega (arith, factorial-grows n 20 h);
   quotient = falling-quotient;
+  quotient-fits = λ n p h. omega (arith, factorial-grows n 20 h, div-le-self (factorial n) (factorial (n - p)));
 }

@@ -1,9 +1,10 @@
 -- The least number at which a test holds: it is at most the bound, the test holds there, and at no lower number. Assumes nothing.
-use mathlib.Core.Path.{_≡_}
-use mathlib.Core.Bool.{Bool, true, false≢true}
+use mathlib.Core.Path.{_≡_, refl}
+use mathlib.Core.Bool.{Bool, true, false, false≢true}
 use mathlib.Core.Logic.{⊎-elim}
-use Prim.Native.Nat.{ℕ, zero, suc, _+_, _≤_}
+use Prim.Native.Nat.{ℕ, zero, suc, _+_, _-_, _≤_, _<_}
 use native.Mathlib.Nat.{eq-or-lt-of-le}
+use native.Mathlib.Numerals.{add-one}
 use native.Mathlib.Omega.{arith}
 use Rattle.theory.specs.Least.{leastFrom, least}
 use Rattle.theory.proofs.Cases.{by-test}
@@ -33,6 +34,16 @@ leastFrom-min test (suc k) r j low h =
     by-test (test r)
     (λ e. rw e low)
     (λ e. rw e (⊎-elim (λ q. absurd (false≢true (cc))) (λ l. leastFrom-min test k (suc r) j l h) (eq-or-lt-of-le low)))
+
+-- the search ends where the test holds; where it does not, it goes on with the next number
+pub leastFrom-here : (test : ℕ → Bool) (k r : ℕ) → test r ≡ true → leastFrom test k r ≡ r
+leastFrom-here test zero r h = refl
+leastFrom-here test (suc k) r h = rw h
+
+pub leastFrom-next : (test : ℕ → Bool) (n r : ℕ) → r < n → test r ≡ false → leastFrom test (n - r) r ≡ leastFrom test (n - (r + 1)) (r + 1)
+leastFrom-next test n r l h =
+    let more : n - r ≡ suc (n - (r + 1)) = omega arith in
+    rw (more, h, add-one r)
 
 -- the same from 0
 pub least-holds : (test : ℕ → Bool) (bound j : ℕ) → j ≤ bound → test j ≡ true → test (least test bound) ≡ true

@@ -71,6 +71,9 @@ count-member c [] h = absurd (omega arith)
 count-member c (x ∷ xs) h =
     by-name c x (λ q e. cc) (λ ne e. rw e (count-member c xs (omega (arith, delta-ne x c (λ q. ne (sym q))))))
 
+pub count-none : (c : ℕ) (xs : List ℕ) → member c xs ≡ false → count c xs ≡ 0
+count-none c xs e = by-le 1 (count c xs) (λ l. absurd (false≢true (sym e ∙ count-member c xs l))) (λ l. omega arith)
+
 pub distinct-head : (x : ℕ) (xs : List ℕ) → Distinct (x ∷ xs) → member x xs ≡ false
 distinct-head x xs d = by-test (member x xs) (λ e. cc) (λ e. e)
 
@@ -88,12 +91,15 @@ distinct-counts (x ∷ xs) h =
     by-test (member x xs) (λ e. absurd (omega (arith, h x, delta-self x, member-count x xs e))) (λ e. e) in
     distinct-cons x xs out (distinct-counts xs (λ c. omega (arith, h c)))
 
-pub permutation-distinct : {n : ℕ} {xs : List ℕ} → IsPermutation n xs → Distinct xs
-permutation-distinct {n} {xs} o =
-    distinct-counts xs (λ c.
+-- a permutation has each name at most once
+pub permutation-single : {n : ℕ} {xs : List ℕ} → IsPermutation n xs → (c : ℕ) → count c xs ≤ 1
+permutation-single {n} {xs} o c =
     by-le 1 (count c xs)
     (λ l. let b : (1 ≤ c) × (c ≤ n) = inside n xs o c l in omega (arith, o .once c (b .0) (b .1)))
-    (λ l. omega arith))
+    (λ l. omega arith)
+
+pub permutation-distinct : {n : ℕ} {xs : List ℕ} → IsPermutation n xs → Distinct xs
+permutation-distinct {n} {xs} o = distinct-counts xs (permutation-single o)
 
 pub distinct-left : (a b : List ℕ) → Distinct (a ++ b) → Distinct a
 distinct-left [] b d = refl

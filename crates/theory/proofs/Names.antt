@@ -4,7 +4,7 @@ use mathlib.Core.Bool.{true, false≢true}
 use mathlib.Core.List.{List, [], _∷_}
 use Prim.Native.Nat.{ℕ, zero, suc, _+_, _≤_, _<_}
 use native.Mathlib.Omega.{arith}
-use lib.ListN.{length}
+use lib.ListN.{length, getD}
 use Rattle.theory.specs.Lists.{member, without, namesFrom, names}
 use Rattle.theory.specs.Permutation.{IsPermutation}
 use Rattle.theory.proofs.Cases.{by-test, by-name}
@@ -32,6 +32,11 @@ ascending-without a (x ∷ xs) h =
 pub names-length : (a n : ℕ) → length (namesFrom a n) ≡ n
 names-length a zero = refl
 names-length a (suc n) = ap suc (names-length (suc a) n)
+
+pub names-at : (a n j : ℕ) → j < n → getD (namesFrom a n) j 0 ≡ a + j
+names-at a zero j h = absurd (omega arith)
+names-at a (suc n) zero h = omega arith
+names-at a (suc n) (suc j) h = names-at (suc a) n j (omega arith) ∙ omega arith
 
 -- they are the names from a to below a + n, and no others
 pub names-low : (a n c : ℕ) → member c (namesFrom a n) ≡ true → a ≤ c

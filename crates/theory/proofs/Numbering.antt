@@ -16,7 +16,7 @@ use Rattle.theory.specs.Factorial.{falling}
 use Rattle.theory.specs.Permutation.{placeOf}
 use Rattle.theory.specs.Prefix.{prefixes}
 use Rattle.theory.proofs.Cases.{by-test, by-name, by-le, by-order}
-use Rattle.theory.proofs.Members.{Distinct, Among, distinct-head, distinct-tail, distinct-cons, distinct-without, member-first, member-later, member-differs, member-getD, member-without, without-among, without-one-length}
+use Rattle.theory.proofs.Members.{Distinct, Among, distinct-head, distinct-tail, distinct-cons, distinct-without, member-first, member-later, member-length, member-differs, member-getD, member-without, without-among, without-none, without-without, without-one-length}
 use Rattle.theory.proofs.Names.{Ascending, ascending-distinct, ascending-without}
 use Rattle.theory.proofs.Places.{placeOf-low, placeOf-high, cellAt-placeOf, placeOf-getD}
 
@@ -99,18 +99,18 @@ prefixes-length zero free d = refl
 prefixes-length (suc p) free d = flatMap-length (block p free) (weight p free) free (block-length p (prefixes-length p) free d)
 
 -- what the first digit of s chooses: a name of `free`; and what is left of s is a number for the names left
-record First (p : ℕ) (free : List ℕ) (s : ℕ) : Type 0 where
-  index : s / weight p free < length free
-  here : member (firstName p free s) free ≡ true
-  digit : s % weight p free < weight p free
-  fits : s % weight p free < falling (length (without (firstName p free s ∷ []) free)) p
-  left : Distinct (without (firstName p free s ∷ []) free)
+pub record First (p : ℕ) (free : List ℕ) (s : ℕ) : Type 0 where
+  pub index : s / weight p free < length free
+  pub here : member (firstName p free s) free ≡ true
+  pub digit : s % weight p free < weight p free
+  pub fits : s % weight p free < falling (length (without (firstName p free s ∷ []) free)) p
+  pub left : Distinct (without (firstName p free s ∷ []) free)
 
 weight-positive : (n w s : ℕ) → s < n * w → 0 < w
 weight-positive n zero s l = absurd (omega arith)
 weight-positive n (suc w) s l = omega arith
 
-first : (p : ℕ) (free : List ℕ) (s : ℕ) → Distinct free → s < falling (length free) (suc p) → First p free s
+pub first : (p : ℕ) (free : List ℕ) (s : ℕ) → Distinct free → s < falling (length free) (suc p) → First p free s
 first p free s d l =
     let w : ℕ = weight p free in
     let pos : 0 < w = weight-positive (length free) w s l in
@@ -168,6 +168,14 @@ over-tail c free q h = record {
     h .named b (member-later b c q m),
   );
 }
+
+-- q and the names left without it are as many as all
+pub over-length : (free q : List ℕ) → Distinct free → Over free q → length q + length (without q free) ≡ length free
+over-length free [] d h = omega (arith, ap length (without-none [] free (λ c m. refl)))
+over-length free (c ∷ q) d h =
+    let m : member c free ≡ true = h .named c (member-first c q) in
+    let rest = over-length (without (c ∷ []) free) q (distinct-without (c ∷ []) free d) (over-tail c free q h) in
+    rw (← without-without q (c ∷ []) free) (omega (arith, without-one-length c free d m, member-length c free m))
 
 pub prefixOf-over : (p : ℕ) (free : List ℕ) (s : ℕ) → Distinct free → s < falling (length free) p → Over free (prefixOf p free s)
 unfolding prefixOf

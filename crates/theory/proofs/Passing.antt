@@ -1,11 +1,12 @@
 -- The storing rule, by which a cell on top is passed over: what it leaves, and its pushes, for any prefix. Assumes nothing.
 use mathlib.Core.Path.{_≡_, refl, ap, sym, _∙_}
 use mathlib.Core.Bool.{true, false, cond, or-false, false≢true}
-use mathlib.Core.List.{List, [], _∷_, _++_, append-nil}
+use mathlib.Core.List.{List, [], _∷_, _++_, reverse, append-nil, reverse-cons}
 use Prim.Native.Nat.{ℕ, _+_, _≤_}
+use native.Mathlib.Numerals.{add-one}
 use native.Mathlib.Omega.{arith}
 use lib.Dec.{eqb}
-use lib.ListN.{length, length-append}
+use lib.ListN.{length, take, length-append}
 use borrow.Author.Tests.{eq-eqb}
 use Rattle.theory.specs.Lists.{member, without}
 use Rattle.theory.specs.Permutation.{top}
@@ -77,6 +78,10 @@ module _ (xs : List ℕ) (d : Distinct xs) where
   pub storePrefix-split : (p : List ℕ) → Distinct p → Among p xs → storePrefix p xs ≡ p ++ without p xs
   storePrefix-split p dp h = storePrefix-upward p h ∙ upward-split xs d p dp h
 
+  -- the next cell of p is not on top when its turn comes, but for the last
+  storePrefix-top : (c : ℕ) (p : List ℕ) → Distinct (c ∷ p) → Among (c ∷ p) xs → 1 ≤ length p → eqb (top (storePrefix p xs)) c ≡ false
+  storePrefix-top c p dp h pos = rw (storePrefix-upward p (among-tail c p xs h)) (upward-top xs d c p dp h pos)
+
   -- all cells are pushed but the last of p, which comes first, where that is on top
   pub storeCount-passed : (p : List ℕ) (c : ℕ) → Distinct (p ++ c ∷ []) → Among (p ++ c ∷ []) xs
       → storeCount (p ++ c ∷ []) xs + cond (eqb (top xs) c) 1 0 ≡ length (p ++ c ∷ [])
@@ -85,9 +90,19 @@ module _ (xs : List ℕ) (d : Distinct xs) where
   storeCount-passed (b ∷ p) c dp h =
       let q : List ℕ = p ++ c ∷ [] in
       let below : Among q xs = among-tail b q xs h in
-      let other : eqb (top (storePrefix q xs)) b ≡ false =
-      rw (storePrefix-upward q below) (upward-top xs d b q dp h (omega (arith, length-append p (c ∷ [])))) in
+      let other : eqb (top (storePrefix q xs)) b ≡ false = storePrefix-top b q dp h (omega (arith, length-append p (c ∷ []))) in
       rw other (omega (arith, storeCount-passed p c (distinct-tail b q dp) below))
+
+  -- so they are the first cells of p, from the last of these to the first
+  pub storePushes-first : (p : List ℕ) → Distinct p → Among p xs → storePushes p xs ≡ reverse (take (storeCount p xs) p)
+  unfolding storePushes storeCount storePrefix
+  storePushes-first [] dp h = refl
+  storePushes-first (c ∷ []) dp h = by-test (eqb (top xs) c) (λ e. rw e) (λ e. rw e)
+  storePushes-first (b ∷ c ∷ p) dp h =
+      let q : List ℕ = c ∷ p in
+      let other : eqb (top (storePrefix q xs)) b ≡ false = storePrefix-top b q dp h (omega arith) in
+      let ih : storePushes q xs ≡ reverse (take (storeCount q xs) q) = storePushes-first (c ∷ p) (distinct-tail b q dp) (among-tail b q xs h) in
+      rw (other, ih, add-one (storeCount q xs)) (sym (reverse-cons b (take (storeCount q xs) q)))
 
   -- each of its pushes is at a place 2 to n
   pub storePushes-places : (p : List ℕ) → Among p xs → Places (length xs) (cellPlaces (storePushes p xs) xs)

@@ -17,8 +17,8 @@ use Rattle.theory.specs.Prefix.{IsPrefix, prefixes, prefixAt, prefixNumb
 use Rattle.theory.specs.Claims.{Numbering, Coding}
 use Rattle.theory.proofs.Cases.{by-test, by-name}
 use Rattle.theory.proofs.Permutations.{inside}
-use Rattle.theory.proofs.Members.{Distinct, permutation-distinct, distinct-left, member-count, member-take}
-use Rattle.theory.proofs.Names.{ascending-distinct, names-length, names-low, names-high, names-member, names-ascending}
+use Rattle.theory.proofs.Members.{Distinct, Among, permutation-distinct, distinct-left, member-count, member-take}
+use Rattle.theory.proofs.Names.{ascending-distinct, names-length, names-low, names-high, names-member, names-ascending, permutation-member}
 use Rattle.theory.proofs.Least.{least-holds, least-bound, least-min}
 use Rattle.theory.proofs.Factorials.{factorial-pos, falling-quotient}
 use Rattle.theory.proofs.Numbering.{prefixOf, numberOf, Over, prefixes-length, prefixes-at, prefixOf-length, prefixOf-over, prefixOf-before, numberOf-prefixOf, numberOf-below, prefixOf-numberOf}
@@ -34,7 +34,7 @@ begins-append : (q xs : List ℕ) → begins q (q ++ xs) ≡ true
 begins-append [] xs = refl
 begins-append (c ∷ q) xs = cc (eq-eqb c c refl, begins-append q xs)
 
-names-distinct : (n : ℕ) → Distinct (names n)
+pub names-distinct : (n : ℕ) → Distinct (names n)
 names-distinct n = ascending-distinct (names n) (names-ascending 1 n)
 
 pub prefix-over : {n p : ℕ} {q : List ℕ} → IsPrefix n p q → Over (names n) q
@@ -42,6 +42,10 @@ prefix-over {n} h = record {
   distinct = h .distinct;
   named = λ c m. names-member 1 n c (h .named c m .0) (omega (arith, h .named c m .1));
 }
+
+-- every permutation has the cells of a prefix
+pub prefix-among : {n p : ℕ} {q xs : List ℕ} → IsPrefix n p q → IsPermutation n xs → Among q xs
+prefix-among h o c k = permutation-member o c ∙ prefix-over h .named c k
 
 module _ (n p : ℕ) where
   prefixes-many : length (prefixes p (names n)) ≡ falling n p
@@ -56,7 +60,7 @@ module _ (n p : ℕ) where
   unfolding prefixAt
   prefixAt-digits s l = prefixes-at p (names n) s (names-distinct n) (below l)
 
-  prefixAt-prefix : (s : ℕ) → s < falling n p → IsPrefix n p (prefixAt n p s)
+  pub prefixAt-prefix : (s : ℕ) → s < falling n p → IsPrefix n p (prefixAt n p s)
   prefixAt-prefix s l =
       let o : Over (names n) (prefixOf p (names n) s) = prefixOf-over p (names n) s (names-distinct n) (below l) in
       rw (prefixAt-digits s l) (record {
@@ -120,7 +124,7 @@ numbering n p l =
     }
 
 -- the first p cells of a permutation are a prefix
-permutation-prefix : {n : ℕ} (p : ℕ) (xs : List ℕ) → p ≤ n → IsPermutation n xs → IsPrefix n p (take p xs)
+pub permutation-prefix : {n : ℕ} (p : ℕ) (xs : List ℕ) → p ≤ n → IsPermutation n xs → IsPrefix n p (take p xs)
 permutation-prefix {n} p xs h o =
     let whole : take p xs ++ drop p xs ≡ xs = take-append-drop p xs in
     record {

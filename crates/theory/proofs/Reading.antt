@@ -1,5 +1,5 @@
 -- Pushes on levels: the permutation read from them is pushed, the highest level rises by one, and no tie comes up. Assumes nothing.
-use mathlib.Core.Path.{_≡_, sym, ap, _∙_, subst}
+use mathlib.Core.Path.{_≡_, refl, sym, ap, _∙_, subst}
 use mathlib.Core.Bool.{true, false}
 use mathlib.Core.List.{List, [], _∷_, _++_}
 use Prim.Native.Nat.{ℕ, zero, suc, _+_, _-_, _≤_}
@@ -114,6 +114,10 @@ reads-cell {L} {xs} c low high r =
     (reads-lifted (s .above) c (s .below) (s .parts) r)
 
 -- a row of pushes of cells
+pub row-length : (cs L : List ℕ) → length (pushLevels cs L) ≡ length L
+row-length [] L = refl
+row-length (c ∷ cs) L = row-length cs (pushLevel c L) ∙ pushed-length c L
+
 pub reads-row : (cs : List ℕ) {L xs : List ℕ} → ((c : ℕ) → member c cs ≡ true → (1 ≤ c) × (c ≤ length L)) → ReadsAs L xs
     → ReadsAs (pushLevels cs L) (pushCells cs xs) × (highest (pushLevels cs L) ≡ highest L + length cs)
 reads-row [] h r = (r, omega arith)

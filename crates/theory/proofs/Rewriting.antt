@@ -1,26 +1,26 @@
 -- Rewriting to a target permutation: the pushes give it, each at a place 2 to n, and no shorter row of pushes does. Assumes nothing.
 use mathlib.Core.Path.{_≡_, refl, ap, sym, _∙_}
 use mathlib.Core.Bool.{true, false, false≢true}
-use mathlib.Core.List.{List, [], _∷_, _++_, reverse, Sublistᴰ, Sublistᴰ·nil-sublist}
-use mathlib.Core.List.Sublistᴰ.{Sublistᴰ·cons-cons}
-use Prim.Native.Nat.{ℕ, zero, suc, _-_, _≤_}
+use mathlib.Core.List.{List, [], _∷_, _++_, reverse, Sublistᴰ, Sublistᴰ·nil-sublist, Sublistᴰ·eq-nil}
+use mathlib.Core.List.Sublistᴰ.{Sublistᴰ·cons, Sublistᴰ·cons-cons}
+use Prim.Native.Nat.{ℕ, zero, suc, _-_, _≤_, _<_}
 use native.Mathlib.Omega.{arith}
 use lib.Dec.{eqb}
-use lib.ListN.{length, getD, take, drop, take-append-drop, length-reverse}
+use lib.ListN.{length, getD, take, drop, take-append-drop, length-drop, length-reverse}
 use lib.Seq.{take-suc, drop-cons, drop-length, drop-append-seam, length-take-le}
 use Rattle.theory.specs.Lists.{count, member, without}
 use Rattle.theory.specs.Permutation.{IsPermutation, top}
 use Rattle.theory.specs.Push.{pushes, Places, pushCells, cellPlaces}
 use Rattle.theory.specs.Rewrite.{inSequence, rewriteNumber, rewritePushes}
 use Rattle.theory.specs.Claims.{Rewriting}
-use Rattle.theory.proofs.Cases.{by-test, by-name}
+use Rattle.theory.proofs.Cases.{by-test, by-name, by-le}
 use Rattle.theory.proofs.Counts.{count-append, count-reverse}
 use Rattle.theory.proofs.Permutations.{inside}
 use Rattle.theory.proofs.Members.{member-count, Distinct, Same, Among, permutation-distinct, distinct-head, distinct-left, distinct-drop, distinct-apart, member-first, member-append, member-take, member-getD}
 use Rattle.theory.proofs.Names.{permutation-member}
 use Rattle.theory.proofs.Least.{least-holds, least-bound, least-min}
 use Rattle.theory.proofs.Splits.{drop-last}
-use Rattle.theory.proofs.Sublists.{sequence-sublist, skip-sublist, sublist-sequence, without-sublist, sublist-one, without-others}
+use Rattle.theory.proofs.Sublists.{sequence-sublist, rest-sublist, skip-sublist, sublist-sequence, without-sublist, sublist-one, without-others}
 use Rattle.theory.proofs.Rows.{upward-split, upward-places, bringAll, bringAll-split, bringAll-length, movedCells, movedCells-length, pushes-bringAll}
 
 rewrite-high : (xs t : List ℕ) → rewriteNumber xs t ≤ length t
@@ -38,6 +38,49 @@ rewrite-sublist xs t =
 rewrite-least : (xs t : List ℕ) (k : ℕ) → Sublistᴰ (drop k t) xs → rewriteNumber xs t ≤ k
 unfolding rewriteNumber
 rewrite-least xs t k h = least-min (λ r. inSequence xs (drop r t)) (length t) k (sublist-sequence xs (drop k t) h)
+
+-- ---- going up the permutation, cell by cell
+
+pub rewrite-none : (t : List ℕ) → rewriteNumber [] t ≡ length t
+rewrite-none t =
+    let r : ℕ = rewriteNumber [] t in
+    omega (arith, rewrite-high [] t, length-drop r t, ap length (Sublistᴰ·eq-nil (rewrite-sublist [] t)))
+
+-- above the cells v, which leave j of the target's, comes one more cell x
+module _ (x : ℕ) (v t : List ℕ) (j : ℕ) (is : j ≡ rewriteNumber v t) (pos : 0 < j) where
+  crossed : Sublistᴰ (drop j t) v
+  crossed = rw is (rewrite-sublist v t)
+
+  last-left : drop (j - 1) t ≡ getD t (j - 1) 0 ∷ drop j t
+  last-left =
+      let q : suc (j - 1) ≡ j = omega arith in
+      rw q at (drop-cons t (j - 1) 0 (omega (arith, rewrite-high v t)))
+
+  -- x crosses off one at most
+  fewer-by-one : rewriteNumber (x ∷ v) t < j → j ≤ suc (rewriteNumber (x ∷ v) t)
+  fewer-by-one h =
+      let m : ℕ = rewriteNumber (x ∷ v) t in
+      let parts : drop m t ≡ getD t m 0 ∷ drop (suc m) t = drop-cons t m 0 (omega (arith, rewrite-high v t)) in
+      omega (arith, rewrite-least v t (suc m) (rest-sublist (rw parts at (rewrite-sublist (x ∷ v) t))))
+
+  pub rewrite-crossed : x ≡ getD t (j - 1) 0 → rewriteNumber (x ∷ v) t ≡ j - 1
+  rewrite-crossed e =
+      let more : Sublistᴰ (drop (j - 1) t) (x ∷ v) = rw last-left (Sublistᴰ·cons-cons (sym e) crossed) in
+      let high : rewriteNumber (x ∷ v) t ≤ j - 1 = rewrite-least (x ∷ v) t (j - 1) more in
+      omega (arith, fewer-by-one (omega arith))
+
+  pub rewrite-passed : (x ≡ getD t (j - 1) 0 → ⊥) → rewriteNumber (x ∷ v) t ≡ j
+  rewrite-passed ne =
+      let m : ℕ = rewriteNumber (x ∷ v) t in
+      let high : m ≤ j = rewrite-least (x ∷ v) t j (Sublistᴰ·cons crossed) in
+      by-le j m
+      (λ l. omega arith)
+      (λ l.
+      let q : m ≡ j - 1 = omega (arith, fewer-by-one l) in
+      let same : Sublistᴰ (getD t (j - 1) 0 ∷ drop j t) (x ∷ v) = rw (q, last-left) at (rewrite-sublist (x ∷ v) t) in
+      absurd (omega (arith, rewrite-least v t (j - 1) (rw last-left (skip-sublist (λ e. ne (sym e)) same)))))
+
+-- ---- the pushes
 
 rewrite-many : (xs t : List ℕ) → length (rewritePushes xs t) ≡ rewriteNumber xs t
 unfolding rewritePushes

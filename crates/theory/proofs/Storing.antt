@@ -9,23 +9,31 @@ use Rattle.theory.specs.Factorial.{factorial}
 use Rattle.theory.specs.Permutation.{IsPermutation, cellAt}
 use Rattle.theory.specs.Prefix.{IsPrefix, prefixes, prefixLength, symbolPrefix, symbolOf}
 use Rattle.theory.specs.Store.{storePrefix, storeCount}
-use Rattle.theory.specs.Claims.{Numbering, Coding, Storing}
+use Rattle.theory.specs.Claims.{Coding, Storing}
 use Rattle.theory.proofs.Members.{Distinct, Among, permutation-distinct}
-use Rattle.theory.proofs.Names.{permutation-member}
 use Rattle.theory.proofs.Splits.{last-split}
 use Rattle.theory.proofs.Passing.{storePushes-pushed, storeCount-pushes, storeCount-most, storePushes-among, storePrefix-split, storeCount-passed, storePushes-places}
-use Rattle.theory.proofs.Prefixes.{prefix-over, numbering, coding}
+use Rattle.theory.proofs.Prefixes.{prefix-among, numbering, coding}
+
+module _ (n m s : ℕ) (codes : m ≤ factorial n) (symbol : s < m) where
+  -- there is a prefix for each symbol
+  symbol-fits : s < length (prefixes (prefixLength n m) (names n))
+  symbol-fits =
+      let code : Coding n m = coding n m codes in
+      omega (arith, code .enough, numbering n (prefixLength n m) (code .at-most) .many)
+
+  pub symbol-prefix : IsPrefix n (prefixLength n m) (symbolPrefix n m s)
+  unfolding symbolPrefix
+  symbol-prefix = numbering n (prefixLength n m) (coding n m codes .at-most) .prefix s symbol-fits
 
 pub storing : (n m s : ℕ) (xs : List ℕ) → m ≤ factorial n → s < m → IsPermutation n xs → Storing n m s xs
 unfolding symbolPrefix symbolOf
 storing n m s xs codes symbol o =
     let code : Coding n m = coding n m codes in
-    let numbers : Numbering n (prefixLength n m) = numbering n (prefixLength n m) (code .at-most) in
-    let fits : s < length (prefixes (prefixLength n m) (names n)) = omega (arith, code .enough, numbers .many) in
     let q : List ℕ = symbolPrefix n m s in
-    let prefix : IsPrefix n (prefixLength n m) q = numbers .prefix s fits in
+    let prefix : IsPrefix n (prefixLength n m) q = symbol-prefix n m s codes symbol in
     let d : Distinct xs = permutation-distinct o in
-    let cells : Among q xs = λ c k. permutation-member o c ∙ prefix-over prefix .named c k in
+    let cells : Among q xs = prefix-among prefix o in
     let split : storePrefix q xs ≡ q ++ without q xs = storePrefix-split xs d q (prefix .distinct) cells in
     record {
       reaches = split;
@@ -44,5 +52,6 @@ storing n m s xs codes symbol o =
             prefix .long,
           );
       one = λ e. omega (arith, storeCount-most q xs, code .one e, prefix .long);
-      read = ap (symbolOf n m) split ∙ numbers .number-prefix s (without q xs) fits;
+      read = ap (symbolOf n m) split
+          ∙ numbering n (prefixLength n m) (code .at-most) .number-prefix s (without q xs) (symbol-fits n m s codes symbol);
     }

@@ -21,7 +21,7 @@ sequence-sublist (x ∷ xs) (c ∷ s) h =
     (λ q e. Sublistᴰ·cons (sequence-sublist xs (c ∷ s) (rw e at h)))
 
 -- the first cells crossed off, whether they are the same or not
-rest-sublist : {c x : ℕ} {s xs : List ℕ} → Sublistᴰ (c ∷ s) (x ∷ xs) → Sublistᴰ s xs
+pub rest-sublist : {c x : ℕ} {s xs : List ℕ} → Sublistᴰ (c ∷ s) (x ∷ xs) → Sublistᴰ s xs
 rest-sublist {s = s} k = ⊎-elim (λ d. Sublistᴰ·trans (Sublistᴰ·cons (Sublistᴰ·refl s)) d) (λ d. d .1) (Sublistᴰ·cases-cons-cons k)
 
 -- a first cell that is not the one looked for is skipped

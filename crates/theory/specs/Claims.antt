@@ -24,6 +24,8 @@ pub record Factorials : Type 0 where
   pub twenty : factorial 20 ≡ 2432902008176640000
   pub fits : (n : ℕ) → n ≤ 20 → factorial n < 2 ^ 64
   pub quotient : (n p : ℕ) → p ≤ n → falling n p ≡ factorial n / factorial (n - p)
+  -- "n!/(n-p)!" fits 64 bits too
+  pub quotient-fits : (n p : ℕ) → n ≤ 20 → factorial n / factorial (n - p) < 2 ^ 64
 
 -- a row of twenty that holds xs, of at most twenty entries
 pub record Padding (xs : List ℕ) : Type 0 where

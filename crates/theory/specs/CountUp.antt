@@ -18,9 +18,13 @@ unfoldable pub countUp : ℕ → List ℕ → List ℕ
 countUp zero L = L
 countUp (suc k) L = countUp k (pushLevel (nextCell L) L)
 
+-- done or ceiling, for k pushes on L: "top level plus the job's pushes exceeds 65,535"
+abbrev pub ceilingOf : List ℕ → ℕ → ℕ
+ceilingOf L k = cond (leb (highest L + k) maxLevel) done ceiling
+
 -- the number of a call with k: "done, with number 0 and k pushes, exactly when the top standing then plus k is at most 65,535"; size and tie come first
 unfoldable pub callNumber : ℕ → List ℕ → ℕ
-callNumber k L = cond (sized (length L)) (cond (tied L) tie (cond (leb (highest L + k) maxLevel) done ceiling)) size
+callNumber k L = cond (sized (length L)) (cond (tied L) tie (ceilingOf L k)) size
 
 -- "Otherwise it gives number 6 and 0 pushes, and the list stays as it was." So it is of size and tie
 unfoldable pub callPushes : ℕ → List ℕ → ℕ

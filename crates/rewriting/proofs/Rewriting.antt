@@ -1,0 +1,168 @@
+-- What a rewrite answers, by the tests that the code makes, and what is read when it is done. Assumes nothing.
+use mathlib.Core.Path.{_≡_, refl, sym, ap, _∙_, subst}
+use mathlib.Core.Bool.{Bool, true, false, cond, _&&_}
+use mathlib.Core.List.{List, _++_, reverse}
+use Prim.Native.Nat.{ℕ, _-_, _≤_}
+use native.Mathlib.Omega.{arith}
+use borrow.Author.Tests.{eqb-true, leb-true, ne-eqb}
+use lib.Dec.{eqb, leb}
+use lib.ListN.{length, take, drop}
+use lib.Seq.{take-take, getD-take}
+use Rattle.theory.specs.Reasons.{done, fit}
+use Rattle.theory.specs.Permutation.{IsPermutation, row}
+use Rattle.theory.specs.Levels.{permutationOf, pushLevels}
+use Rattle.theory.specs.CountUp.{ceilingOf}
+use Rattle.theory.specs.Rewrite.{rewriteNumber, rewritePushes}
+use Rattle.theory.specs.Claims.{Rewriting}
+use Rattle.theory.proofs.Members.{entry-inside}
+use Rattle.theory.proofs.Sorting.{permutationOf-permutation}
+use Rattle.theory.proofs.Reading as theory
+use Rattle.theory.proofs.Rewriting.{rewriting}
+use Rattle.permutation.specs.Records.{listOf, recordOf, faultOf}
+use Rattle.permutation.specs.Answers.{given}
+use Rattle.permutation.specs.declared.answers.Permutation.{Permutation}
+use Rattle.permutation.proofs.Records.{Sound, sound}
+use Rattle.permutation.proofs.Answering.{given-done, given-refused, permuted-done, orElse-refused, orElse-done}
+use Rattle.charge.specs.Answers.{pushesOf, readNumber, reading}
+use Rattle.charge.specs.declared.answers.Pushes.{Pushes}
+use Rattle.charge.proofs.Numbers.{Readable, readable, read-done}
+use Rattle.charge.proofs.Sorting.{row-first}
+use Rattle.rewriting.specs.Answers.{sizeOf, fitOf, pushesTo, rewriteFault, rewriteReason, rewritten, rewriteLevels, rewriteList, RewriteOf}
+use Rattle.rewriting.specs.Raising.{Pushable, raised}
+use Rattle.rewriting.proofs.Standing.{row-readable}
+
+-- ---- where the judge does not refuse
+
+-- what is then known of the levels, of the target and of the room in the push list
+pub record Judged (L : List ℕ) (target : Permutation) (room : ℕ) : Type 0 where
+  pub none : rewriteFault L target room ≡ 0
+  pub readable : Readable L
+  pub long : length (target .cells) ≡ 20
+  pub sound : Sound target
+  pub same : target .n ≡ length L
+  pub enough : length L - 1 ≤ room
+
+fits : (a b : Bool) → cond (a && b) done fit ≡ 0 → (a ≡ true) × (b ≡ true)
+fits true true h = (refl, refl)
+fits true false h = absurd (omega arith)
+fits false b h = absurd (omega arith)
+
+pub judged : {L : List ℕ} {target : Permutation} {room : ℕ} → length (target .cells) ≡ 20 → rewriteFault L target room ≡ 0 → Judged L target room
+unfolding rewriteFault
+judged {L} {target} {room} long h =
+    let past-target = orElse-done (sizeOf (target .n)) _ (orElse-done (sizeOf (length L)) _ h .1) .1 in
+    let past-fit = orElse-done (fitOf L target room) _ past-target in
+    let last = orElse-done (faultOf target) (readNumber L) (past-fit .1) in
+    let f = fits (eqb (target .n) (length L)) (leb (length L - 1) room) (past-fit .0) in
+    record {
+      none = h;
+      readable = readable (last .1);
+      long = long;
+      sound = sound target long (last .0);
+      same = eqb-true (target .n) (length L) (f .0);
+      enough = leb-true (length L - 1) room (f .1);
+    }
+
+module _ {L : List ℕ} {target : Permutation} {room : ℕ} (j : Judged L target room) where
+  target-permutation : IsPermutation (length L) (listOf target)
+  target-permutation = subst (λ (n : ℕ). IsPermutation n (listOf target)) (j .same) (j .sound .permutation)
+
+  rewrites : Rewriting (length L) (permutationOf L) (listOf target)
+  rewrites =
+      rewriting (length L) (permutationOf L) (listOf target) (omega (arith, j .readable .few)) (permutationOf-permutation L) target-permutation
+
+  -- r is found on the sorted row
+  pub sorted-number : {cells : List ℕ} {r : ℕ} → cells ≡ row (permutationOf L) → r ≡ rewriteNumber (take (target .n) cells) (listOf target)
+      → r ≡ pushesTo L target
+  sorted-number sorted e = e ∙ rw (j .same, row-first L (j .readable .many) sorted)
+
+  module _ {r : ℕ} (is : r ≡ pushesTo L target) where
+    pub number-below : r ≤ length L - 1
+    number-below = rw is (rewrites .at-most)
+
+    pushes-are : reverse (take r (target .cells)) ≡ rewritePushes (permutationOf L) (listOf target)
+    unfolding rewritePushes
+    pushes-are =
+        ap reverse (sym (take-take r (target .n) (target .cells) (omega (arith, number-below, j .same))))
+        ∙ ap (λ (k : ℕ). reverse (take k (listOf target))) is
+
+    pub pushable : Pushable (length L) (target .cells) r
+    pushable = record {
+      long = j .long;
+      few = omega (arith, number-below, j .readable .many);
+      named = λ i h.
+          let b = entry-inside target-permutation i (omega (arith, number-below, target-permutation .long)) in
+          rw (getD-take (target .n) (target .cells) i 0 (omega (arith, number-below, j .same))) at b;
+    }
+
+  -- the levels that the pushes leave are read as the target
+  rewrite-read : {L′ : List ℕ} {r : ℕ} → L′ ≡ pushLevels (rewritePushes (permutationOf L) (listOf target)) L
+      → r ≡ pushesTo L target → RewriteOf L target L′ r
+  unfolding reading
+  rewrite-read {L′} {r} e is =
+      let cs : List ℕ = rewritePushes (permutationOf L) (listOf target) in
+      let left : permutationOf L′ ≡ listOf target =
+      rw e (theory.reading L (j .readable .untied) .row-read cs (rewrites .cells) ∙ rewrites .reaches) in
+      record {
+        read =
+            sym (permuted-done (readNumber L′) (permutationOf L′) target (read-done (rw e (row-readable cs (rewrites .cells) (j .readable))))
+            (j .sound .is ∙ ap recordOf (sym left)));
+        fewest = rw is (rewrites .fewest);
+      }
+
+-- ---- the answer
+
+-- what the contract says of an answer, and of the levels and the list that are left
+abbrev Answered : List ℕ → Permutation → List ℕ → Pushes → List ℕ → List ℕ → Type 0
+Answered L target list a L′ list′ =
+    (a ≡ rewritten L target (length list))
+    × ((L′ ≡ rewriteLevels L target (length list))
+    × ((list′ ≡ rewriteList L target list)
+    × (a .number ≡ 0 → RewriteOf L target L′ (a .pushes))))
+
+module _ (L : List ℕ) (target : Permutation) (list : List ℕ) where
+  rewrite-refused : {number : ℕ} → number ≡ rewriteReason L target (length list) → (number ≡ 0 → ⊥)
+      → Answered L target list (record { number = number; pushes = 0 }) L list
+  unfolding rewritten rewriteLevels rewriteList
+  rewrite-refused e ne = rw (ne-eqb (rewriteReason L target (length list)) 0 (λ z. ne (e ∙ z)), e) (refl, (refl, (refl, λ z. absurd (ne (e ∙ z)))))
+
+  pub rewrite-fault : {number : ℕ} → number ≡ rewriteFault L target (length list) → (number ≡ 0 → ⊥)
+      → Answered L target list (record { number = number; pushes = 0 }) L list
+  unfolding rewriteReason
+  rewrite-fault e ne = rewrite-refused (orElse-refused (rewriteFault L target (length list)) _ e ne) ne
+
+  module _ (j : Judged L target (length list)) {r : ℕ} (is : r ≡ pushesTo L target) where
+    reason-is : rewriteReason L target (length list) ≡ ceilingOf L r
+    unfolding rewriteReason
+    reason-is = rw (j .none, is)
+
+    -- the answer of the pushes is that of the job, and the list gets their names where it is done
+    module _ {a : Pushes} {L′ : List ℕ} (k : (a ≡ pushesOf (ceilingOf L r) r) × (L′ ≡ raised L (target .cells) r)) where
+      number-is : a .number ≡ ceilingOf L r
+      number-is = ap (λ (b : Pushes). b .number) (k .0)
+
+      names : List ℕ
+      names = reverse (take r (target .cells)) ++ drop r list
+
+      answered : {list′ : List ℕ} → list′ ≡ given (ceilingOf L r) names list → Answered L target list a L′ list′
+      unfolding rewritten rewriteLevels rewriteList raised names
+      answered list-is =
+          let left : L′ ≡ given (ceilingOf L r) (pushLevels (rewritePushes (permutationOf L) (listOf target)) L) L = k .1 ∙ rw (pushes-are j is) in (
+            k .0 ∙ rw (reason-is, is),
+            (
+              left ∙ rw reason-is,
+              (
+                list-is ∙ rw (reason-is, pushes-are j is, is),
+                λ z.
+                    let done : L′ ≡ _ = left ∙ given-done (ceilingOf L r) _ L (sym number-is ∙ z) in
+                    rewrite-read j done (ap (λ (b : Pushes). b .pushes) (k .0) ∙ given-done (ceilingOf L r) r 0 (sym number-is ∙ z) ∙ is),
+              ),
+            ),
+          )
+
+      pub rewrite-done : {list′ : List ℕ} → a .number ≡ 0 → list′ ≡ reverse (take r (target .cells)) ++ drop r list → Answered L target list a L′ list′
+      unfolding names
+      rewrite-done z list-is = answered (list-is ∙ sym (given-done (ceilingOf L r) _ list (sym number-is ∙ z)))
+
+      pub rewrite-ceiling : (a .number ≡ 0 → ⊥) → Answered L target list a L′ list
+      rewrite-ceiling ne = answered (sym (given-refused (ceilingOf L r) _ list (λ z. ne (number-is ∙ z))))

@@ -1,0 +1,97 @@
+-- `rewriting::rewrite::rewrite` meets its contract: each test decides the number, and past them the pushes give the target. Assumes nothing.
+use mathlib.Core.Path.{_≡_, refl, sym, _∙_}
+use native.Mathlib.Omega.{arith}
+use borrow.Author.Needs.{needs}
+use lib.ListN.{length}
+use Rattle.charge.proofs.Sorting.{sorted-row, row-long}
+use Rattle.rewriting.specs.Answers.{pushesTo}
+use Rattle.rewriting.proofs.Rewriting.{Judged, judged, sorted-number, number-below, pushable, rewrite-fault, rewrite-ceiling, rewrite-done}
+use Rattle.rewriting.proofs.rewrite.rewrite.Statement.{statement}
+use Rattle.rewriting.proofs.rewrite.rewrite.Tie as tie
+
+-- past the first test, the judge does not refuse
+faultless : (c : tie.Else1)
+    → let entry = c .before .before .before .before .before in
+    Judged (entry .args .levels .now) (entry .args .target) (length (entry .args .list .now))
+faultless c = judged (search needs) (sym (c .before .judge .ensures) ∙ c .if1 .left)
+
+-- the same when the pushes are counted, and r is their number
+known : (c : tie.After-rewrite-number)
+    → let entry = c .before .before .before .before .before .before .before .before .before .before .before .before in
+    Judged (entry .args .levels .now) (entry .args .target) (length (entry .args .list .now))
+known c = faultless (c .before .before .before .before .before .before .before)
+
+number : (c : tie.After-rewrite-number)
+    → let entry = c .before .before .before .before .before .before .before .before .before .before .before .before in
+    c .rewrite-number .result ≡ pushesTo (entry .args .levels .now) (entry .args .target)
+number c =
+    let j = known c in
+    sorted-number j (sorted-row _ (j .readable .many) (c .before .before .before .before .sort-cells .ensures)) (c .rewrite-number .ensures)
+
+judge-requires : tie.Need-judge-requires
+judge-requires c κs = search needs
+
+same-length : tie.Need-same-length
+same-length c = search needs
+
+returns : tie.Need-returns
+returns c = rewrite-fault _ _ _ (c .before .judge .ensures) (c .if1 .taken)
+
+sort-cells-requires : tie.Need-sort-cells-requires
+sort-cells-requires c κs = (faultless (c .before .before) .readable .many, refl)
+
+rewrite-number-requires : tie.Need-rewrite-number-requires
+rewrite-number-requires c κs =
+    let j = faultless (c .before .before .before .before .before .before) in
+    (j .sound .many, row-long _ (j .readable .many) (sorted-row _ (j .readable .many) (c .before .before .before .sort-cells .ensures)), j .long)
+
+raise-requires : tie.Need-raise-requires
+raise-requires c κs =
+    let counted = c .before .before in
+    pushable (known counted) (number counted)
+
+list-pushes-requires : tie.Need-list-pushes-requires
+list-pushes-requires c κs =
+    let counted = c .before .before .before .before .before .before .before .before .before in
+    let j = known counted in
+    let high = number-below j (number counted) in
+    (omega (arith, j .readable .many), j .long, omega (arith, j .enough))
+
+same-length-2 : tie.Need-same-length-2
+same-length-2 c = search needs
+
+same-length-3 : tie.Need-same-length-3
+same-length-3 c = search needs
+
+returns-2 : tie.Need-returns-2
+returns-2 c =
+    let at = c .before .before .before .before .before in
+    let judged = at .before .before .before .before in
+    let counted = judged .before .before .before in
+    rewrite-done _ _ _ (known counted) (number counted) (judged .raise .ensures) (at .if2 .taken) (c .before .before .list-pushes .ensures)
+
+same-length-4 : tie.Need-same-length-4
+same-length-4 c = search needs
+
+returns-3 : tie.Need-returns-3
+returns-3 c =
+    let judged = c .before .before .before .before in
+    let counted = judged .before .before .before in
+    rewrite-ceiling _ _ _ (known counted) (number counted) (judged .raise .ensures) (c .if2 .left)
+
+pub rewrite-spec : {M : Type 1} → statement M
+rewrite-spec =
+    tie.close
+    (tie.spec
+    judge-requires
+    same-length
+    returns
+    sort-cells-requires
+    rewrite-number-requires
+    raise-requires
+    list-pushes-requires
+    same-length-2
+    same-length-3
+    returns-2
+    same-length-4
+    returns-3)

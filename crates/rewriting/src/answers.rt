@@ -1,0 +1,14 @@
+// What the jobs on symbols answer beside `Pushes`: a number first, 0 where the job is done.
+#[repr(C)]
+pub struct Symbol {
+    pub number: u8,
+    pub symbol: u64,
+}
+
+// A prefix: its length, and its cells with 0 past them.
+#[repr(C)]
+pub struct Prefixed {
+    pub number: u8,
+    pub length: usize,
+    pub cells: [u8; 20],
+}

@@ -1,0 +1,91 @@
+// Rewrite to a target permutation by the fewest pushes.
+ghost use mathlib.Core.Path.{_≡_};
+ghost use mathlib.Core.List.{_++_, reverse};
+ghost use Prim.Native.Nat.{_≤_};
+ghost use lib.ListN.{length, take, drop};
+ghost use Rattle.theory.specs.Rewrite as meaning;
+ghost use Rattle.rewriting.specs.Answers.{rewriteFault, rewritten, rewriteLevels, rewriteList, RewriteOf};
+use super::raise::raise;
+use charge::answers::Pushes;
+use charge::judge::fault;
+use charge::sort::sort_cells;
+use permutation::answers::Permutation;
+use permutation::reasons::FIT;
+use permutation::reasons::SIZE;
+use permutation::validity::check;
+
+// SIZE, FIT, MUDDLE, TIE or 0: all but the ceiling, which is judged on the pushes. `room` is the length of the push list.
+fn judge(levels: &[u16], target: Permutation, room: usize) -> u8
+    ensures { λ r. ⌜ r ≡ rewriteFault (now (levels .entry)) target room ⌝ }
+{
+    let group = fault(levels);
+    if group == SIZE {
+        return SIZE;
+    }
+    let checked = check(target).number;
+    if checked == SIZE {
+        return SIZE;
+    }
+    let n = levels.len();
+    if target.n != n {
+        return FIT;
+    }
+    if room < n - 1 {
+        return FIT;
+    }
+    if checked != 0 {
+        return checked;
+    }
+    group
+}
+
+// Goes up the permutation and crosses off the target's cells from its last one on; those that are left must be pushed.
+fn rewrite_number(cells: &[u8; 20], target: &[u8; 20], n: usize) -> usize
+    requires { ⌜ (n ≤ 20) × (length (now cells) ≡ 20) × (length (now target) ≡ 20) ⌝ }
+    ensures { λ r. ⌜ r ≡ meaning.rewriteNumber (take n (now (cells .entry))) (take n (now (target .entry))) ⌝ }
+{
+    let mut r = n;
+    let mut i = n;
+    while 0 < i {
+        i -= 1;
+        if cells[i] == target[r - 1] {
+            r -= 1;
+        }
+    }
+    r
+}
+
+// The first r names go to the start of the list, the r-th first.
+fn list_pushes(list: &mut [u8], cells: &[u8; 20], r: usize)
+    requires { ⌜ (r ≤ 20) × (length (now cells) ≡ 20) × (r ≤ length (now list)) ⌝ }
+    ensures { λ _. ⌜ now (list .exit) ≡ reverse (take r (now (cells .entry))) ++ drop r (now (list .entry)) ⌝ }
+{
+    let mut i: usize = 0;
+    while i < r {
+        list[i] = cells[r - 1 - i];
+        i += 1;
+    }
+}
+
+// The last clause: the target is what is then read, and no shorter row of pushes leads to it.
+pub fn rewrite(levels: &mut [u16], target: Permutation, list: &mut [u8]) -> Pushes
+    ensures { λ r. ⌜ r ≡ rewritten (now (levels .entry)) target (length (now (list .entry))) ⌝ }
+    ensures { λ _. ⌜ now (levels .exit) ≡ rewriteLevels (now (levels .entry)) target (length (now (list .entry))) ⌝ }
+    ensures { λ _. ⌜ now (list .exit) ≡ rewriteList (now (levels .entry)) target (now (list .entry)) ⌝ }
+    ensures { λ r. ⌜ (r .number ≡ 0 → RewriteOf (now (levels .entry)) target (now (levels .exit)) (r .pushes)) ⌝ }
+{
+    let number = judge(levels, target, list.len());
+    if number != 0 {
+        return Pushes { number, pushes: 0 };
+    }
+    let mut cells = [0u8; 20];
+    sort_cells(levels, &mut cells);
+    let to = target.cells;
+    let n = target.n;
+    let r = rewrite_number(&cells, &to, n);
+    let answer = raise(levels, &to, r);
+    if answer.number == 0 {
+        list_pushes(list, &to, r);
+    }
+    answer
+}
