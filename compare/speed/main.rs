@@ -1,5 +1,6 @@
 //! Rank, unrank and count up of 20 cells beside plain Rust programs, in one process by alternating rounds, the best round of each.
 //! The plain programs follow document 01 word by word and check nothing; ours check every record and every level list they are given.
+//! Then whole sheets, read, worked through and laid out as text.
 use std::hint::black_box;
 use std::time::Instant;
 
@@ -28,11 +29,18 @@ struct Pushes {
     pushes: u32,
 }
 
+#[repr(C)]
+struct Printed {
+    number: u8,
+    length: usize,
+}
+
 // A lent list crosses as its address and its length.
 unsafe extern "C" {
     fn tm_rank(permutation: Permutation) -> Ranked;
     fn tm_unrank(n: usize, rank: u64) -> Permuted;
     fn tm_count_up(levels: *mut u16, len: usize, k: u32) -> Pushes;
+    fn tm_bench(sheet: *const u8, len: usize, text: *mut u8, room: usize) -> Printed;
 }
 
 /// Finds cell n, copies the remaining order into a fixed array, and goes on with that.
@@ -136,6 +144,22 @@ fn compare(name: &str, count: usize, mut ours: impl FnMut() -> u64, mut plain: i
     println!("{name:28} ours {:7.1} ns   plain {:7.1} ns   plain/ours {:5.2}", best[0], best[1], best[1] / best[0]);
 }
 
+/// The best of 300 rounds of a whole sheet. Each round starts from the sheet's bytes.
+fn time_sheet(name: &str) {
+    let sheet = std::fs::read(format!("crates/sheets/data/{name}")).unwrap();
+    let mut text = vec![0u8; 31_344];
+    let mut best = f64::MAX;
+    for _ in 0..300 {
+        let lent = black_box(&sheet);
+        let t = Instant::now();
+        let r = unsafe { tm_bench(lent.as_ptr(), lent.len(), text.as_mut_ptr(), text.len()) };
+        best = best.min(t.elapsed().as_secs_f64() * 1e6);
+        assert!(r.number == 0 && r.length > 0);
+        black_box(&text);
+    }
+    println!("sheet {name:22} {:5} bytes {best:7.1} us", sheet.len());
+}
+
 fn main() {
     let mut random = Random(0x9E37_79B9_7F4A_7C15);
     let permutations: Vec<Permutation> = (0..100_000).map(|_| shuffled(&mut random, 20)).collect();
@@ -183,4 +207,7 @@ fn main() {
             sum(&levels)
         },
     );
+    for name in ["longest", "thousand-counts", "thousand-stores", "sixty-four-groups-no-commands", "paper"] {
+        time_sheet(name);
+    }
 }

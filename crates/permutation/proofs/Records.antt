@@ -17,7 +17,7 @@ use Rattle.permutation.specs.Spots.{Checks}
 use Rattle.permutation.specs.declared.answers.Permutation.{Permutation}
 
 -- both of two tests
-both : (a b : Bool) → (a && b) ≡ true → (a ≡ true) × (b ≡ true)
+pub both : (a b : Bool) → (a && b) ≡ true → (a ≡ true) × (b ≡ true)
 both true b h = (refl, h)
 both false b h = absurd (false≢true h)
 

@@ -1,9 +1,10 @@
--- Lists of cell names: how often a name stands in one, whether it does, what is left without some names, and the names 1 to n.
+-- Lists of cell names: how often a name stands in one, whether it does, what is left without some names, and the names 1 to n; lists in a row.
 -- Assumes nothing.
 use mathlib.Core.Bool.{Bool, true, false, cond, _&&_, _||_}
-use mathlib.Core.List.{List, [], _∷_}
-use Prim.Native.Nat.{ℕ, zero, suc, _+_}
+use mathlib.Core.List.{List, [], _∷_, _++_}
+use Prim.Native.Nat.{ℕ, zero, suc, _+_, _-_}
 use lib.Dec.{eqb}
+use lib.ListN.{length, replicate}
 
 -- 1 where the two names are the same, and 0 otherwise
 unfoldable pub delta : ℕ → ℕ → ℕ
@@ -43,3 +44,7 @@ namesFrom a (suc n) = a ∷ namesFrom (suc a) n
 -- Document 01, "The module and its jobs": "A group has n cells, 2 to 20, named 1 to n."
 abbrev pub names : ℕ → List ℕ
 names n = namesFrom 1 n
+
+-- a list in a row of `room` places, with z past it
+abbrev pub padded : {A : Type 0} → ℕ → A → List A → List A
+padded room z xs = xs ++ replicate (room - length xs) z

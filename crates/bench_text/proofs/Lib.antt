@@ -1,0 +1,10 @@
+-- The proofs of the claims, and the laws that the proofs of the functions share.
+pub mod Jobs
+pub mod Working
+pub mod Ranks
+pub mod Outcomes
+pub mod Decimal
+pub mod Putting
+pub mod Pieces
+pub mod Printing
+pub mod Claims

@@ -1,0 +1,249 @@
+-- Working through a sheet in memory: groups in their row, and what the commands so far answered and left. Assumes nothing.
+use mathlib.Core.Path.{_≡_, refl, sym, ap, _∙_}
+use mathlib.Core.List.{List, [], _∷_, _++_, map}
+use Prim.Native.Nat.{ℕ, zero, suc, _+_, _-_, _≤_, _<_}
+use native.Mathlib.Numerals.{add-one}
+use native.Mathlib.Omega.{arith}
+use lib.ListN.{length, getD, take, drop, set, replicate, length-set, length-map, List·getD-map, List·getD-append}
+use lib.Seq.{length-take-le, take-all, take-suc, take-append-seam, drop-append-seam, getD-take, set-append-left, getD-set-same, getD-set-other}
+use Rattle.theory.proofs.Cases.{by-name}
+use Rattle.permutation.specs.declared.answers.Permutation.{Permutation}
+use Rattle.charge.specs.Answers.{readNumber}
+use Rattle.charge.specs.declared.answers.Pushes.{Pushes}
+use Rattle.charge.proofs.Numbers.{readable}
+use Rattle.sheet.specs.Sheet.{Contents}
+use Rattle.sheet.specs.Claims.{Valid}
+use Rattle.theory.specs.Lists.{padded}
+use Rattle.sheet.specs.Held.{groupOf, noGroup, groupsOf, noEntry, heldOf, levelsOf, groupsIn, contentsOf}
+use Rattle.sheet.specs.Rows.{Holds}
+use Rattle.sheet.proofs.Rows.{padded-none, padded-snoc, groups-back}
+use Rattle.sheet.specs.declared.held.Action.{Action}
+use Rattle.sheet.specs.declared.held.Group.{Group}
+use Rattle.sheet.specs.declared.held.Groups.{Groups}
+use Rattle.sheet.specs.declared.held.Entry.{Entry}
+use Rattle.sheet.specs.declared.held.Sheet.{Sheet}
+use Rattle.bench_text.specs.Work.{jobAnswer, jobLevels, levelsFor, answerTo, groupsAfter, answers, groupsAfterAll, rankOf, groupsLeft}
+use Rattle.bench_text.specs.Answers.{noAnswer, outcomeOf}
+use Rattle.bench_text.specs.Laying.{Group-held, Sheet-held, Outcome-held}
+use Rattle.bench_text.specs.declared.work.Acted.{Acted}
+use Rattle.bench_text.specs.declared.answers.Outcome.{Outcome}
+use Rattle.bench_text.proofs.Jobs.{job-length, job-readable}
+
+-- inside a list, what stands past its end does not matter
+pub getD-any : {A : Type 0} (l : List A) (i : ℕ) (d e : A) → i < length l → getD l i d ≡ getD l i e
+getD-any [] i d e h = absurd (omega arith)
+getD-any (x ∷ l) zero d e h = refl
+getD-any (x ∷ l) (suc i) d e h = getD-any l i d e (omega arith)
+
+-- an entry of a row that holds what f makes of a list
+pub padded-map-at : {A B : Type 0} (room : ℕ) (z : B) (f : A → B) (xs : List A) (i : ℕ) (d : B) (e : A) → i < length xs
+    → getD (padded room z (map f xs)) i d ≡ f (getD xs i e)
+padded-map-at room z f xs i d e h =
+    let there : i < length (map f xs) = omega (arith, length-map xs f) in
+    List·getD-append (map f xs) _ d i there ∙ getD-any (map f xs) i d (f e) there ∙ List·getD-map f xs i e
+
+-- ---- a group
+
+-- what was held is what is read back
+group-levels : (L : List ℕ) → levelsOf (groupOf L) ≡ L
+group-levels L = take-append-seam L (replicate (20 - length L) 0)
+
+group-held : (L : List ℕ) → readNumber L ≡ 0 → Group-held (groupOf L)
+group-held L h = let back = group-levels L in record { held = ap groupOf (sym back); readable = rw back h }
+
+module _ {g : Group} (h : Group-held g) where
+  pub group-size : g .n ≡ length (levelsOf g)
+  group-size = ap (λ (x : Group). x .n) (h .held)
+
+  pub group-few : g .n ≤ 20
+  group-few = rw group-size (readable (h .readable) .many)
+
+  -- the levels that a job leaves, at the row's front
+  pub group-after : (a : Action) (target : Permutation) {L : List ℕ} → L ≡ jobLevels a target (levelsOf g)
+      → _≡_ {A = Group} (record { n = g .n; levels = L ++ drop (g .n) (g .levels) }) (groupOf (jobLevels a target (levelsOf g)))
+  group-after a target e =
+      let size : g .n ≡ length (jobLevels a target (levelsOf g)) = group-size ∙ sym (job-length a target (levelsOf g)) in
+      let rest : drop (g .n) (g .levels) ≡ replicate (20 - g .n) 0 =
+      ap (λ (x : Group). drop (x .n) (x .levels)) (h .held) ∙ drop-append-seam (levelsOf g) _ ∙ rw (← group-size) in
+      rw (e, rest) (ap (λ (n : ℕ). record { n = n; levels = jobLevels a target (levelsOf g) ++ replicate (20 - n) 0 }) size)
+
+-- ---- groups in their row
+
+map-set : {A B : Type 0} (f : A → B) (l : List A) (i : ℕ) (a : A) → set (map f l) i (f a) ≡ map f (set l i a)
+map-set f [] i a = refl
+map-set f (x ∷ l) zero a = refl
+map-set f (x ∷ l) (suc i) a = ap (λ (r : List _). f x ∷ r) (map-set f l i a)
+
+module _ (Ls : List (List ℕ)) (g : ℕ) (h : g < length Ls) where
+  groups-at : (d : Group) → getD (groupsOf Ls .list) g d ≡ groupOf (getD Ls g [])
+  groups-at d = padded-map-at 64 noGroup groupOf Ls g d [] h
+
+  groups-set : (L : List ℕ) → _≡_ {A = Groups} (record { count = length Ls; list = set (groupsOf Ls .list) g (groupOf L) }) (groupsOf (set Ls g L))
+  groups-set L =
+      let there : g < length (map groupOf Ls) = omega (arith, length-map Ls groupOf) in
+      let same : length (map groupOf (set Ls g L)) ≡ length (map groupOf Ls) =
+      length-map (set Ls g L) groupOf ∙ length-set Ls g L ∙ sym (length-map Ls groupOf) in
+      rw (length-set Ls g L, set-append-left (map groupOf Ls) _ g (groupOf L) there, map-set groupOf Ls g L, same)
+
+-- each has a permutation
+abbrev Each : List (List ℕ) → Type 0
+Each Ls = (g : ℕ) → g < length Ls → readNumber (getD Ls g []) ≡ 0
+
+pub groups-held : (Ls : List (List ℕ)) → length Ls ≤ 64 → Each Ls → Holds (groupsOf Ls)
+groups-held Ls few each =
+    let back = groups-back Ls in
+    record { held = ap groupsOf (sym back); few = few; readable = rw back each }
+
+module _ {groups : Groups} (h : Holds groups) where
+  pub held-count : groups .count ≡ length (groupsIn groups)
+  held-count = ap (λ (x : Groups). x .count) (h .held)
+
+  module _ (g : ℕ) (below : g < groups .count) (d : Group) where
+    pub held-at : getD (groups .list) g d ≡ groupOf (getD (groupsIn groups) g [])
+    held-at = ap (λ (x : Groups). getD (x .list) g d) (h .held) ∙ groups-at (groupsIn groups) g (omega (arith, held-count)) d
+
+    pub held-readable : Group-held (getD (groups .list) g d)
+    held-readable = rw held-at (group-held _ (h .readable g (omega (arith, held-count))))
+
+    pub held-levels : levelsOf (getD (groups .list) g d) ≡ getD (groupsIn groups) g []
+    held-levels = ap levelsOf held-at ∙ group-levels _
+
+-- ---- a row of commands
+
+module _ (e : Entry) where
+  -- one command more
+  answers-snoc : (Ls : List (List ℕ)) (es : List Entry) → answers Ls (es ++ e ∷ []) ≡ answers Ls es ++ answerTo (groupsAfterAll Ls es) e ∷ []
+  unfolding answers groupsAfterAll
+  answers-snoc Ls [] = refl
+  answers-snoc Ls (f ∷ es) = ap (λ (r : List Pushes). answerTo Ls f ∷ r) (answers-snoc (groupsAfter Ls f) es)
+
+  groupsAfterAll-snoc : (Ls : List (List ℕ)) (es : List Entry) → groupsAfterAll Ls (es ++ e ∷ []) ≡ groupsAfter (groupsAfterAll Ls es) e
+  unfolding groupsAfterAll
+  groupsAfterAll-snoc Ls [] = refl
+  groupsAfterAll-snoc Ls (f ∷ es) = groupsAfterAll-snoc (groupsAfter Ls f) es
+
+  after-each : (Ls : List (List ℕ)) → Each Ls → Each (groupsAfter Ls e)
+  after-each Ls each g h =
+      let at : ℕ = e .command .group in
+      let left : List ℕ = jobLevels (e .command .action) (e .target) (levelsFor Ls e) in
+      let inside : g < length Ls = omega (arith, length-set Ls at left) in
+      by-name g at
+      (λ q t.
+      let there : at < length Ls = omega arith in
+      rw (q, getD-set-same Ls at left [] there) (job-readable (e .command .action) (e .target) (levelsFor Ls e) (each at there)))
+      (λ ne t. rw (getD-set-other Ls at g left [] ne) (each g inside))
+
+pub answers-length : (Ls : List (List ℕ)) (es : List Entry) → length (answers Ls es) ≡ length es
+unfolding answers
+answers-length Ls [] = refl
+answers-length Ls (e ∷ es) = ap suc (answers-length (groupsAfter Ls e) es)
+
+groupsAfterAll-length : (Ls : List (List ℕ)) (es : List Entry) → length (groupsAfterAll Ls es) ≡ length Ls
+unfolding groupsAfterAll
+groupsAfterAll-length Ls [] = refl
+groupsAfterAll-length Ls (e ∷ es) = groupsAfterAll-length (groupsAfter Ls e) es ∙ length-set Ls (e .command .group) _
+
+groupsAfterAll-each : (Ls : List (List ℕ)) (es : List Entry) → Each Ls → Each (groupsAfterAll Ls es)
+unfolding groupsAfterAll
+groupsAfterAll-each Ls [] each = each
+groupsAfterAll-each Ls (e ∷ es) each = groupsAfterAll-each (groupsAfter Ls e) es (after-each e Ls each)
+
+-- whatever commands of a sheet without fault are done, the groups that they leave each have a permutation
+pub groupsAfterAll-held : (c : Contents) (es : List Entry) → Valid c → Holds (groupsOf (groupsAfterAll (c .groups) es))
+groupsAfterAll-held c es v =
+    groups-held (groupsAfterAll (c .groups) es) (omega (arith, v .few, groupsAfterAll-length (c .groups) es)) (groupsAfterAll-each (c .groups) es (v .readable))
+
+-- so the outcome can be printed
+pub outcome-held : (c : Contents) → Valid c → Outcome-held (outcomeOf c)
+unfolding outcomeOf
+outcome-held c v = record { holds = groupsAfterAll-held c (c .entries) v; ranks-are = rw (groups-back (groupsLeft c)) }
+
+-- ---- the loop over the commands of a sheet
+
+abbrev doneOf : Sheet → ℕ → List Entry
+doneOf sheet i = take i (contentsOf sheet .entries)
+
+-- after i commands
+pub record Progress (sheet : Sheet) (said : List Pushes) (groups : Groups) (i : ℕ) : Type 0 where
+  pub within : i ≤ sheet .count
+  pub most : sheet .count ≤ 1000
+  pub answered : said ≡ padded 1000 noAnswer (answers (contentsOf sheet .groups) (doneOf sheet i))
+  pub left : groups ≡ groupsOf (groupsAfterAll (contentsOf sheet .groups) (doneOf sheet i))
+
+module _ {sheet : Sheet} (h : Sheet-held sheet) where
+  sheet-count : sheet .count ≡ length (contentsOf sheet .entries)
+  unfolding heldOf
+  sheet-count = ap (λ (s : Sheet). s .count) (h .held)
+
+  pub start : Progress sheet (replicate 1000 noAnswer) (sheet .groups) 0
+  unfolding heldOf answers groupsAfterAll
+  start = record {
+    within = omega arith;
+    most = omega (arith, sheet-count, h .valid .short);
+    answered = sym (padded-none 1000 noAnswer);
+    left = ap (λ (s : Sheet). s .groups) (h .held);
+  }
+
+  module _ {said : List Pushes} {groups : Groups} {i : ℕ} (v : Progress sheet said groups i) where
+    pub progress-held : Holds groups
+    progress-held = rw (v .left) (groupsAfterAll-held (contentsOf sheet) (doneOf sheet i) (h .valid))
+
+    module _ (more : i < sheet .count) (d : Entry) where
+      abbrev next : Entry
+      next = getD (sheet .entries) i d
+
+      there : i < length (contentsOf sheet .entries)
+      there = omega (arith, sheet-count)
+
+      next-is : getD (contentsOf sheet .entries) i d ≡ next
+      next-is = getD-take (sheet .count) (sheet .entries) i d more
+
+      -- its group is at an index of the row
+      module _ {g : ℕ} (is : g ≡ next .command .group) where
+        pub index-below : (g < groups .count) × (groups .count ≤ 64)
+        index-below =
+            let named = h .valid .named i there in
+            let same : getD (contentsOf sheet .entries) i noEntry ≡ next = getD-any (contentsOf sheet .entries) i noEntry d there ∙ next-is in
+            let count : groups .count ≡ length (contentsOf sheet .groups) =
+            ap (λ (x : Groups). x .count) (v .left) ∙ groupsAfterAll-length (contentsOf sheet .groups) (doneOf sheet i) in
+            rw (count, is) (rw same at named, h .valid .few)
+
+        pub step : (z : Group) {r : Acted}
+            → r ≡ record {
+              answer = jobAnswer (next .command .action) (next .target) (levelsOf (getD (groups .list) g z));
+              group = groupOf (jobLevels (next .command .action) (next .target) (levelsOf (getD (groups .list) g z)));
+            }
+            → Progress sheet (set said i (r .answer)) (record { count = groups .count; list = set (groups .list) g (r .group) }) (i + 1)
+        step z {r} e =
+            let Gs : List (List ℕ) = contentsOf sheet .groups in
+            let es : List Entry = contentsOf sheet .entries in
+            let Ls : List (List ℕ) = groupsAfterAll Gs (take i es) in
+            let inside : g < length Ls = omega (arith, index-below .0, ap (λ (x : Groups). x .count) (v .left)) in
+            let levels : levelsOf (getD (groups .list) g z) ≡ levelsFor Ls next =
+            ap (λ (x : Groups). levelsOf (getD (x .list) g z)) (v .left)
+            ∙ ap levelsOf (groups-at Ls g inside z)
+            ∙ group-levels (getD Ls g [])
+            ∙ ap (λ (k : ℕ). getD Ls k []) is in
+            let acted : r ≡ record { answer = answerTo Ls next; group = groupOf (jobLevels (next .command .action) (next .target) (levelsFor Ls next)) } =
+            e ∙ rw levels in
+            let more-done : take (i + 1) es ≡ take i es ++ next ∷ [] = rw (add-one, take-suc es i d there, next-is) in
+            let long : length (answers Gs (take i es)) ≡ i = answers-length Gs (take i es) ∙ length-take-le i es (omega (arith, there)) in
+            record {
+              within = omega arith;
+              most = v .most;
+              answered = rw (more-done, answers-snoc next Gs (take i es), acted, v .answered)
+                  (padded-snoc 1000 noAnswer i (answers Gs (take i es)) (answerTo Ls next) long (omega (arith, v .most)));
+              left = rw (more-done, groupsAfterAll-snoc next Gs (take i es), acted, v .left, ← is) (groups-set Ls g inside _);
+            }
+
+    pub end : {ranks : List ℕ} → sheet .count ≤ i → ranks ≡ padded 64 0 (map rankOf (groupsIn groups))
+        → _≡_ {A = Outcome} (record { count = sheet .count; answers = said; groups = groups; ranks = ranks }) (outcomeOf (contentsOf sheet))
+    unfolding outcomeOf
+    end {ranks} all e =
+        let es : List Entry = contentsOf sheet .entries in
+        let Ls : List (List ℕ) = groupsAfterAll (contentsOf sheet .groups) es in
+        let whole : take i es ≡ es = take-all i es (omega (arith, sheet-count)) in
+        let answers-are : said ≡ padded 1000 noAnswer (answers (contentsOf sheet .groups) es) = rw whole at (v .answered) in
+        let groups-are : groups ≡ groupsOf Ls = rw whole at (v .left) in
+        let ranks-are : ranks ≡ padded 64 0 (map rankOf Ls) = e ∙ rw (groups-are, groups-back Ls) in
+        λ k. record { count = sheet-count k; answers = answers-are k; groups = groups-are k; ranks = ranks-are k }

@@ -1,0 +1,279 @@
+"""A model of document 01's rules on lists, as the paper words them; nothing of the code. `expected.py` checks it against what documents 01 and 001 print."""
+from math import factorial, perm
+
+# The rules of document 01. An order is a list of names, place 1 first.
+
+
+def push(order, i):
+    """The cell at place i moves to place 1, and those above it move down one."""
+    return [order[i - 1]] + order[:i - 1] + order[i:]
+
+
+def successor(order):
+    n = len(order)
+    if n == 2:
+        return 2
+    if order[0] != n:
+        return n
+    return n + 1 - successor(order[:0:-1])  # places n, n-1, ..., 2
+
+
+def step(order):
+    return push(order, successor(order))
+
+
+def digit(order):
+    """(i - 2) modulo n, where cell n stands at place i."""
+    return (order.index(len(order)) + 1 - 2) % len(order)
+
+
+def remaining(order):
+    """Places i-1 down to 1, then places n down to i+1."""
+    i = order.index(len(order)) + 1
+    return order[:i - 1][::-1] + order[i:][::-1]
+
+
+def digits(order):
+    return [digit(order)] + digits(remaining(order)) if len(order) > 1 else [0]
+
+
+def rank(order):
+    return digit(order) + len(order) * rank(remaining(order)) if len(order) > 1 else 0
+
+
+def unrank(n, r):
+    """The order of n cells that has rank r, from the order that remains: r is its digit and n times the rank of that."""
+    if n == 1:
+        return [1]
+    rest = unrank(n - 1, r // n)
+    i = next(i for i in range(1, n + 1) if (i - 2) % n == r % n)
+    return rest[:i - 1][::-1] + [n] + rest[i - 1:][::-1]
+
+
+def read(levels):
+    """The names from highest level to lowest."""
+    return sorted(range(1, len(levels) + 1), key=lambda c: -levels[c - 1])
+
+
+def push_level(levels, i):
+    """The level of the cell at place i becomes the old top level plus 1, and no other changes."""
+    cell = read(levels)[i - 1]
+    return [max(levels) + 1 if c == cell else level for c, level in enumerate(levels, 1)]
+
+
+def count_up(levels, k):
+    for _ in range(k):
+        levels = push_level(levels, successor(read(levels)))
+    return levels
+
+
+def push_cell(order, cell):
+    return push(order, order.index(cell) + 1)
+
+
+def push_cells(levels, cells):
+    for cell in cells:
+        levels = push_level(levels, read(levels).index(cell) + 1)
+    return levels
+
+
+def rewrite_number(order, target):
+    """The smallest r for which the last n - r cells of the target stand in that same relative sequence now."""
+    return next(r for r in range(len(target) + 1) if [c for c in order if c in target[r:]] == target[r:])
+
+
+def rewrite_pushes(order, target):
+    """The target's cells r, r-1, ..., 1."""
+    return target[:rewrite_number(order, target)][::-1]
+
+
+def prefix_length(n, m):
+    """The smallest p with n!/(n-p)! at least m."""
+    return next(p for p in range(n + 1) if factorial(n) // factorial(n - p) >= m)
+
+
+def prefix_at(names, p, s):
+    """Prefix number s of length p over names that ascend: each name in turn leads as many as there are of length p - 1 over the others."""
+    if p == 0:
+        return []
+    first = names[s // perm(len(names) - 1, p - 1)]
+    return [first] + prefix_at([c for c in names if c != first], p - 1, s % perm(len(names) - 1, p - 1))
+
+
+def prefix_number(names, prefix):
+    if not prefix:
+        return 0
+    others = [c for c in names if c != prefix[0]]
+    return names.index(prefix[0]) * perm(len(others), len(prefix) - 1) + prefix_number(others, prefix[1:])
+
+
+def symbol_prefix(n, m, s):
+    return prefix_at([*range(1, n + 1)], prefix_length(n, m), s)
+
+
+def symbol_of(m, order):
+    return prefix_number(sorted(order), order[:prefix_length(len(order), m)])
+
+
+def store_pushes(order, prefix):
+    """The prefix cells p, p-1, ..., 1: a cell already on top is passed over, any other is pushed."""
+    cells = []
+    for cell in prefix[::-1]:
+        if order[0] != cell:
+            order = push_cell(order, cell)
+            cells.append(cell)
+    return cells
+
+
+# Why a job is sent back: the lowest of the numbers whose reason holds, 0 where none does.
+REASONS = dict(size=1, fit=2, muddle=3, tie=4, value=5, ceiling=6, idle=7)
+
+
+def lowest(**holds):
+    return min([REASONS[word] for word in holds if holds[word]], default=0)
+
+
+def sized(n):
+    return 2 <= n <= 20
+
+
+def is_order(n, row):
+    return sized(n) and sorted(row[:n]) == list(range(1, n + 1)) and not any(row[n:])
+
+
+def record_reasons(n, row):
+    return dict(size=not sized(n), muddle=not is_order(n, row))
+
+
+def level_reasons(levels):
+    return dict(size=not sized(len(levels)), tie=len(set(levels)) < len(levels))
+
+
+def over(levels, pushes):
+    """Top level plus the job's pushes exceeds 65,535."""
+    return bool(levels) and max(levels) + pushes > 65535
+
+
+# What each job gives: its number, and beside it what it answers; where it is sent back, zeros. `cut` is a row without the zeros at its end.
+
+def row(names):
+    return (names + [0] * 20)[:20]
+
+
+def cut(names):
+    return names[:max([i for i, name in enumerate(names, 1) if name], default=1)]
+
+
+def record(order):
+    return [len(order), "|", *cut(row(order))]
+
+
+def do_rank(n, *names):
+    number = lowest(**record_reasons(n, row([*names])))
+    return [number, 0 if number else rank([*names])]
+
+
+def do_digits(n, *names):
+    number = lowest(**record_reasons(n, row([*names])))
+    return [number, *row([] if number else digits([*names]))]
+
+
+def do_successor(n, *names):
+    number = lowest(**record_reasons(n, row([*names])))
+    return [number, 0 if number else successor([*names])]
+
+
+def do_push(i, n, *names):
+    number = lowest(**record_reasons(n, row([*names])), value=not 2 <= i <= n)
+    return [number, *record([] if number else push([*names], i))]
+
+
+def do_run_steps(k, n, *names):
+    number = lowest(**record_reasons(n, row([*names])))
+    order, pushes = [] if number else [*names], row([])
+    for _ in range(0 if number else k):
+        order = step(order)
+        pushes[order[0] - 1] += 1
+    return [number, *record(order), "|", *pushes]
+
+
+def do_unrank(n, r):
+    # size decides past n = 20, where n! is not worked out
+    number = lowest(size=not sized(n), value=n <= 20 and r >= factorial(n))
+    return [number, *record([] if number else unrank(n, r))]
+
+
+def do_read(*levels):
+    number = lowest(**level_reasons(levels))
+    return [number, *record([] if number else read(levels))]
+
+
+def do_push_level(i, *levels):
+    number = lowest(**level_reasons(levels), value=not 2 <= i <= len(levels), ceiling=over(levels, 1))
+    return [number, 0 if number else 1, "|", *(levels if number else push_level(levels, i))]
+
+
+def call(k, levels):
+    """A count-up call: its number, and the levels that it leaves."""
+    number = lowest(**level_reasons(levels), ceiling=over(levels, k))
+    return number, levels if number else count_up(levels, k)
+
+
+def do_count_up(k, *levels):
+    number, after = call(k, levels)
+    return [number, 0 if number else k, "|", *after]
+
+
+def do_run_calls(room, calls, *lists):
+    """A list of calls, each on the levels as the last one left them. Its number goes to its byte, and the other bytes keep their 9."""
+    counts, levels, numbers, done = lists[:calls], lists[calls:], [9] * room, 0
+    number = lowest(fit=room < calls)
+    for i, k in enumerate(() if number else counts):
+        numbers[i], levels = call(k, levels)
+        done += 0 if numbers[i] else k
+    return [number, done, "|", *levels, "|", *numbers]
+
+
+def do_rewrite(room, group, *rest):
+    """Rewrite levels to a target. The pushes' names go to the start of the lent bytes, and the others keep their 9."""
+    levels, n, names, lent = rest[:group], rest[group], row([*rest[group + 1:]]), [9] * room
+    number = lowest(size=not sized(group) or not sized(n), fit=n != group or room < group - 1, muddle=not is_order(n, names), tie=level_reasons(levels)["tie"])
+    cells = [] if number else rewrite_pushes(read(levels), names[:n])
+    number = number or lowest(ceiling=over(levels, len(cells)))
+    if number:
+        return [number, 0, "|", *levels, "|", *lent]
+    return [0, len(cells), "|", *push_cells(levels, cells), "|", *cells, *lent[len(cells):]]
+
+
+def code_reasons(n, m):
+    """Size decides past n = 20, where n! is not worked out."""
+    return dict(value=n <= 20 and not 1 <= m <= factorial(n))
+
+
+def do_prefix(s, m, n):
+    number = lowest(size=not sized(n), value=code_reasons(n, m)["value"] or s >= m)
+    found = [] if number else symbol_prefix(n, m, s)
+    return [number, len(found), "|", *cut(row(found))]
+
+
+def do_store(s, m, *levels):
+    number = lowest(**level_reasons(levels), value=code_reasons(len(levels), m)["value"] or s >= m)
+    cells = [] if number else store_pushes(read(levels), symbol_prefix(len(levels), m, s))
+    number = number or lowest(ceiling=over(levels, len(cells)))
+    return [number, 0 if number else len(cells), "|", *(levels if number else push_cells(levels, cells))]
+
+
+def do_read_symbol(m, *levels):
+    number = lowest(**level_reasons(levels), **code_reasons(len(levels), m))
+    symbol = 0 if number else symbol_of(m, read(levels))
+    number = number or lowest(idle=symbol >= m)
+    return [number, 0 if number else symbol]
+
+
+def do_symbols(m, *levels):
+    """Each symbol is stored on these levels and then read."""
+    words = []
+    for s in range(m):
+        stored = do_store(s, m, *levels)
+        words += [":", *stored, ":", *do_read_symbol(m, *stored[3:])]
+    return words[1:]

@@ -1,0 +1,12 @@
+-- The proofs of the claims, and the laws that the proofs of the functions share.
+pub mod Inversion
+pub mod Valid
+pub mod Rows
+pub mod Holding
+pub mod Longest
+pub mod Claims
+pub mod Spelled
+pub mod Reading
+pub mod Loops
+pub mod Answers
+pub mod Cases

@@ -1,0 +1,124 @@
+-- `sheet::commands::read_command` meets its contract: at each return the tests that led there say which case of `command` holds. Assumes nothing.
+use mathlib.Core.Path.{_≡_, sym, ap, _∙_}
+use Prim.Native.Nat.{_+_}
+use borrow.Author.Needs.{needs}
+use lib.ListN.{getD}
+use Rattle.sheet.specs.Sheet.{command, bodyAt}
+use Rattle.sheet.specs.Rows.{entryRead}
+use Rattle.sheet.proofs.Cases.{command-end, command-half, command-stray, command-body, body-count, body-rewrite, body-store, body-none}
+use Rattle.sheet.proofs.commands.read_command.Statement.{statement}
+use Rattle.sheet.proofs.commands.read_command.Tie as tie
+
+-- past the tests, the kind decides
+at-body : (d : tie.Else3)
+    → let a = d .before .before .before .before .before .before .before .before .args in
+    command (a .sizes .now) (a .s .now) (a .at)
+    ≡ bodyAt (getD (a .s .now) (a .at) 0) (getD (a .s .now) (a .at + 1) 0) (getD (a .sizes .now) (d .before .wide .result) 0) (a .s .now) (a .at + 1 + 1)
+at-body d =
+    let tests = d .before .before .before in
+    rw (d .before .wide .ensures)
+    (command-body _ _ _ (tests .before .before .if1 .left) (tests .if2 .left) (rw (d .before .wide .ensures) at (d .if3 .left)))
+
+refuse-requires : tie.Need-refuse-requires
+refuse-requires c κs = search needs
+
+returns : tie.Need-returns
+unfolding entryRead
+returns c = c .refuse .ensures ∙ ap entryRead (sym (command-end _ _ _ (c .before .if1 .taken)))
+
+shared-slice-read-kind : tie.Need-shared-slice-read-kind
+shared-slice-read-kind c = search needs
+
+add-place : tie.Need-add-place
+add-place c = search needs
+
+refuse-requires-2 : tie.Need-refuse-requires-2
+refuse-requires-2 c κs = search needs
+
+returns-2 : tie.Need-returns-2
+unfolding entryRead
+returns-2 c =
+    c .refuse2 .ensures ∙ ap entryRead (sym (command-half _ _ _ (c .before .before .before .if1 .left) (c .before .if2 .taken)))
+
+shared-slice-read-group : tie.Need-shared-slice-read-group
+shared-slice-read-group c = search needs
+
+wide-requires : tie.Need-wide-requires
+wide-requires c κs = search needs
+
+refuse-requires-3 : tie.Need-refuse-requires-3
+refuse-requires-3 c κs = search needs
+
+returns-3 : tie.Need-returns-3
+unfolding entryRead
+returns-3 c =
+    let tests = c .before .before .before .before in
+    c .refuse3 .ensures
+    ∙ ap entryRead
+    (sym (command-stray _ _ _ (tests .before .before .if1 .left) (tests .if2 .left) (rw (c .before .before .wide .ensures) at (c .before .if3 .taken))))
+
+add-body : tie.Need-add-body
+add-body c = search needs
+
+mul-n : tie.Need-mul-n
+mul-n c = search needs
+
+shared-slice-read-n : tie.Need-shared-slice-read-n
+shared-slice-read-n c = search needs
+
+count-at-requires : tie.Need-count-at-requires
+count-at-requires c κs = search needs
+
+rewrite-at-requires : tie.Need-rewrite-at-requires
+rewrite-at-requires c κs = (search needs, c .before .before .before .before .before .before .before .before .before .before .pre _)
+
+store-at-requires : tie.Need-store-at-requires
+store-at-requires c κs = search needs
+
+refuse-requires-4 : tie.Need-refuse-requires-4
+refuse-requires-4 c κs = search needs
+
+returns-4 : tie.Need-returns-4
+unfolding entryRead
+returns-4 c = c .count-at .ensures ∙ ap entryRead (sym (at-body (c .before .before .before) ∙ body-count _ _ _ _ _ (c .before .match .keys1)))
+
+returns-5 : tie.Need-returns-5
+unfolding entryRead
+returns-5 c = c .rewrite-at .ensures ∙ ap entryRead (sym (at-body (c .before .before .before) ∙ body-rewrite _ _ _ _ _ (c .before .match .keys2)))
+
+returns-6 : tie.Need-returns-6
+unfolding entryRead
+returns-6 c = c .store-at .ensures ∙ ap entryRead (sym (at-body (c .before .before .before) ∙ body-store _ _ _ _ _ (c .before .match .keys3)))
+
+returns-7 : tie.Need-returns-7
+unfolding entryRead
+returns-7 c =
+    let other = c .before .match .rest in
+    c .refuse4 .ensures
+    ∙ ap entryRead (sym (at-body (c .before .before .before) ∙ body-none _ _ _ _ _ (other .0 .0 .1) (other .0 .1) (other .1)))
+
+pub read-command-spec : {M : Type 1} → statement M
+read-command-spec =
+    tie.close
+    (tie.spec
+    refuse-requires
+    returns
+    shared-slice-read-kind
+    add-place
+    refuse-requires-2
+    returns-2
+    shared-slice-read-group
+    wide-requires
+    refuse-requires-3
+    returns-3
+    add-body
+    mul-n
+    shared-slice-read-n
+    count-at-requires
+    rewrite-at-requires
+    store-at-requires
+    refuse-requires-4
+    returns-4
+    returns-5
+    returns-6
+    returns-7)

@@ -1,0 +1,74 @@
+-- `sheet::groups::levels_at` meets its contract: the row holds the first i levels. Assumes nothing.
+use mathlib.Core.Path.{_≡_}
+use Prim.Native.Nat.{_-_, _≤_}
+use native.Mathlib.Omega.{arith}
+use borrow.Author.Needs.{needs}
+use Rattle.theory.specs.Permutation.{row}
+use Rattle.sheet.specs.Rows.{numbers}
+use Rattle.sheet.proofs.Reading.{numbers-more}
+use Rattle.sheet.proofs.groups.levels_at.Statement.{statement}
+use Rattle.sheet.proofs.groups.levels_at.Tie as tie
+
+abbrev Inv-loop : tie.InvT-loop
+Inv-loop s from n levels₀ i₀ levels i = (i ≤ n) × (levels ≡ row (numbers 2 i s from))
+
+abbrev μ-loop : tie.MeasureT-loop
+μ-loop s from n levels₀ i₀ levels i = n - i
+
+loop-holds : tie.Need-loop-holds Inv-loop μ-loop
+unfolding numbers
+loop-holds c = search needs
+
+mul-little : tie.Need-mul-little Inv-loop μ-loop
+mul-little c = search needs
+
+add-little : tie.Need-add-little Inv-loop μ-loop
+add-little c = search needs
+
+little-requires : tie.Need-little-requires Inv-loop μ-loop
+little-requires c κs = search needs
+
+cast-levels : tie.Need-cast-levels Inv-loop μ-loop
+cast-levels c = search needs
+
+mul-levels : tie.Need-mul-levels Inv-loop μ-loop
+mul-levels c = search needs
+
+array-write-levels : tie.Need-array-write-levels Inv-loop μ-loop
+array-write-levels c = search needs
+
+add-i : tie.Need-add-i Inv-loop μ-loop
+add-i c = search needs
+
+loop-less : tie.Need-loop-less Inv-loop μ-loop
+loop-less c = search needs
+
+loop-again : tie.Need-loop-again Inv-loop μ-loop
+loop-again c =
+    let a = c .before .before .before .before .args in
+    let l = c .before .before .loop in
+    (omega arith, rw (l .inv .1) (numbers-more (a .s .now) 2 (l .i) (a .from) _ (omega arith) (c .little .ensures .0)))
+
+returns : tie.Need-returns Inv-loop μ-loop
+returns c =
+    let l = c .before .loop in
+    let done : l .i ≡ c .before .before .before .args .n = omega arith in
+    rw done at (l .inv .1)
+
+pub levels-at-spec : {M : Type 1} → statement M
+levels-at-spec =
+    tie.close
+    (tie.spec
+    Inv-loop
+    μ-loop
+    loop-holds
+    mul-little
+    add-little
+    little-requires
+    cast-levels
+    mul-levels
+    array-write-levels
+    add-i
+    loop-less
+    loop-again
+    returns)

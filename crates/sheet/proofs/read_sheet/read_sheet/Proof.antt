@@ -1,0 +1,150 @@
+-- `sheet::read_sheet::read_sheet` meets its contract: the first i groups are in the row, and the rest is read from `at` on. Assumes nothing.
+use mathlib.Core.Path.{_≡_, sym, ap, _∙_}
+use mathlib.Core.List.{List}
+use Prim.Native.Nat.{ℕ, _-_}
+use native.Mathlib.Omega.{arith}
+use borrow.Author.Needs.{needs}
+use Rattle.sheet.specs.Sheet.{group, commands}
+use Rattle.sheet.specs.Held.{groupOf, noGroup, groupsOf, sheetRead, groupsIn}
+use Rattle.sheet.specs.Rows.{groupRead}
+use Rattle.sheet.specs.declared.held.Groups.{Groups}
+use Rattle.sheet.specs.declared.groups.GroupRead.{GroupRead}
+use Rattle.sheet.proofs.Rows.{groups-back, read-hold}
+use Rattle.sheet.proofs.Loops.{Turns, turns-none, turns-more, turns-stop, turns-all, turns-long}
+use Rattle.sheet.proofs.Answers.{group-numbered, answered-fault, answered-got}
+use Rattle.sheet.proofs.Cases.{sheet-none, sheet-few, sheet-many, sheet-fault, sheet-groups}
+use Rattle.sheet.proofs.read_sheet.read_sheet.Statement.{statement}
+use Rattle.sheet.proofs.read_sheet.read_sheet.Tie as tie
+
+abbrev Inv-loop : tie.InvT-loop
+Inv-loop s count list₀ at₀ i₀ list at i = Turns groupOf 64 noGroup (group s) count 1 list at i
+
+abbrev μ-loop : tie.MeasureT-loop
+μ-loop s count list₀ at₀ i₀ list at i = count - i
+
+-- at the end, the row holds all groups
+held-now : (c : tie.After-loop Inv-loop μ-loop)
+    → let l = c .before .loop in
+    _≡_ {A = Groups} (record { count = c .before .before .before .before .before .wide .result; list = l .list }) (groupsOf (l .inv .read))
+held-now c =
+    let l = c .before .loop in
+    let long = turns-long (l .inv) (search needs) in
+    λ i. record { count = sym long i; list = l .inv .front i }
+
+refuse-requires : tie.Need-refuse-requires Inv-loop μ-loop
+refuse-requires c κs = search needs
+
+returns : tie.Need-returns Inv-loop μ-loop
+unfolding sheetRead
+returns c = c .refuse .ensures ∙ ap sheetRead (sym (sheet-none _ (c .before .if1 .taken)))
+
+shared-slice-read-wide : tie.Need-shared-slice-read-wide Inv-loop μ-loop
+shared-slice-read-wide c = search needs
+
+wide-requires : tie.Need-wide-requires Inv-loop μ-loop
+wide-requires c κs = search needs
+
+refuse-requires-2 : tie.Need-refuse-requires-2 Inv-loop μ-loop
+refuse-requires-2 c κs = search needs
+
+returns-2 : tie.Need-returns-2 Inv-loop μ-loop
+unfolding sheetRead
+returns-2 c =
+    c .refuse2 .ensures ∙ ap sheetRead (sym (sheet-few _ _ (omega arith) (c .before .before .wide .ensures) (c .before .if2 .taken)))
+
+refuse-requires-3 : tie.Need-refuse-requires-3 Inv-loop μ-loop
+refuse-requires-3 c κs = search needs
+
+returns-3 : tie.Need-returns-3 Inv-loop μ-loop
+unfolding sheetRead
+returns-3 c =
+    c .refuse3 .ensures
+    ∙ ap sheetRead (sym (sheet-many _ _ (omega arith) (c .before .before .before .wide .ensures) (c .before .before .if2 .left) (c .before .if3 .taken)))
+
+no-groups-requires : tie.Need-no-groups-requires Inv-loop μ-loop
+no-groups-requires c κs = search needs
+
+loop-holds : tie.Need-loop-holds Inv-loop μ-loop
+loop-holds c = rw (c .no-groups .ensures) (turns-none groupOf 64 noGroup (group _) _ 1)
+
+read-group-requires : tie.Need-read-group-requires Inv-loop μ-loop
+read-group-requires c κs = search needs
+
+refuse-requires-4 : tie.Need-refuse-requires-4 Inv-loop μ-loop
+refuse-requires-4 c κs = search needs
+
+returns-4 : tie.Need-returns-4 Inv-loop μ-loop
+unfolding sheetRead
+returns-4 c =
+    let l = c .before .before .before .before .before .loop in
+    let found = c .before .before .before .read-group in
+    let tests = c .before .before .before .before .before .before .before in
+    let bad = answered-fault group-numbered (found .result) _ (found .ensures) (c .before .if4 .taken) in
+    let stopped = turns-stop (l .inv) (search needs) (bad .0) (bad .1) in
+    c .refuse4 .ensures
+    ∙ rw (bad .2)
+    (ap sheetRead (sym (sheet-fault _ _ (omega arith) (tests .before .before .wide .ensures) (tests .before .if2 .left) (tests .if3 .left) _ stopped)))
+
+mul-list : tie.Need-mul-list Inv-loop μ-loop
+mul-list c = search needs
+
+array-set-from-list : tie.Need-array-set-from-list Inv-loop μ-loop
+array-set-from-list c = search needs
+
+add-i : tie.Need-add-i Inv-loop μ-loop
+add-i c = search needs
+
+loop-less : tie.Need-loop-less Inv-loop μ-loop
+loop-less c = search needs
+
+loop-again : tie.Need-loop-again Inv-loop μ-loop
+unfolding groupRead
+loop-again c =
+    let l = c .before .before .before .before .before .loop in
+    let found = c .before .before .before .read-group in
+    let good = answered-got group-numbered (found .result) _ (found .ensures) (c .before .if4 .left) in
+    turns-more (l .inv) (search needs) (search needs) (good .0) (good .1) (good .2) _ _
+    (ap (λ (r : GroupRead). r .group) (good .3)) (ap (λ (r : GroupRead). r .next) (good .3))
+
+read-commands-requires : tie.Need-read-commands-requires Inv-loop μ-loop
+read-commands-requires c κs =
+    let l = c .before .loop in
+    rw (held-now c) (read-hold _ _ _ (l .inv .read) _ (turns-all (l .inv) (search needs)) (search needs))
+
+returns-5 : tie.Need-returns-5 Inv-loop μ-loop
+returns-5 c =
+    let l = c .before .before .loop in
+    let tests = c .before .before .before .before in
+    let s = tests .before .before .before .before .before .before .args .s .now in
+    let back = ap groupsIn (held-now (c .before)) ∙ groups-back (l .inv .read) in
+    let whole =
+    sheet-groups s _ (omega arith) (tests .before .before .wide .ensures) (tests .before .if2 .left) (tests .if3 .left) (l .inv .read) _
+    (turns-all (l .inv) (search needs)) in
+    c .read-commands .ensures ∙ ap sheetRead (ap (λ (Ls : List (List ℕ)). commands Ls s (l .at)) back ∙ sym whole)
+
+pub read-sheet-spec : {M : Type 1} → statement M
+read-sheet-spec =
+    tie.close
+    (tie.spec
+    Inv-loop
+    μ-loop
+    refuse-requires
+    returns
+    shared-slice-read-wide
+    wide-requires
+    refuse-requires-2
+    returns-2
+    refuse-requires-3
+    returns-3
+    no-groups-requires
+    loop-holds
+    read-group-requires
+    refuse-requires-4
+    returns-4
+    mul-list
+    array-set-from-list
+    add-i
+    loop-less
+    loop-again
+    read-commands-requires
+    returns-5)

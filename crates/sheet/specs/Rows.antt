@@ -1,0 +1,35 @@
+-- What the readers of one group and of one command answer, and rows of numbers. Only inner contracts cite these. Assumes nothing.
+use mathlib.Core.Path.{_≡_}
+use mathlib.Core.List.{List, [], _∷_}
+use Prim.Native.Nat.{ℕ, zero, suc, _+_, _≤_, _<_}
+use lib.ListN.{length, getD, take, drop}
+use Rattle.charge.specs.Answers.{readNumber}
+use Rattle.sheet.specs.Bytes.{Got, fault, got, numberOf, little}
+use Rattle.sheet.specs.Held.{groupOf, noGroup, groupsOf, noEntry, groupsIn}
+use Rattle.sheet.specs.declared.held.Groups.{Groups}
+use Rattle.sheet.specs.declared.held.Entry.{Entry}
+use Rattle.sheet.specs.declared.groups.GroupRead.{GroupRead}
+use Rattle.sheet.specs.declared.commands.EntryRead.{EntryRead}
+
+unfoldable pub groupRead : Got (List ℕ) → GroupRead
+groupRead (fault f) = record { number = numberOf f; group = noGroup; next = 0 }
+groupRead (got L end) = record { number = 0; group = groupOf L; next = end }
+
+unfoldable pub entryRead : Got Entry → EntryRead
+entryRead (fault f) = record { number = numberOf f; entry = noEntry; next = 0 }
+entryRead (got e end) = record { number = 0; entry = e; next = end }
+
+-- n numbers of k bytes each from a place on
+unfoldable pub numbers : ℕ → ℕ → List ℕ → ℕ → List ℕ
+numbers k zero s at = []
+numbers k (suc n) s at = little (take k (drop at s)) ∷ numbers k n s (at + k)
+
+-- no group has more than twenty cells
+abbrev pub Small : List ℕ → Type 0
+Small sizes = (g : ℕ) → getD sizes g 0 ≤ 20
+
+-- groups in memory, as they were read or as commands left them: each has a permutation. For other crates too
+pub record Holds (groups : Groups) : Type 0 where
+  pub held : groups ≡ groupsOf (groupsIn groups)
+  pub few : groups .count ≤ 64
+  pub readable : (g : ℕ) → g < length (groupsIn groups) → readNumber (getD (groupsIn groups) g []) ≡ 0

@@ -1,0 +1,79 @@
+// A bench sheet in memory: groups and commands in rows of fixed length, filled from the front. Past them stand zeros.
+ghost use mathlib.Core.Path.{_≡_};
+ghost use lib.ListN.{replicate};
+ghost use Rattle.sheet.specs.Held.{noGroup, noEntry};
+use permutation::answers::Permutation;
+
+// n cells, and their levels by name with 0 past n.
+pub struct Group {
+    pub n: usize,
+    pub levels: [u16; 20],
+}
+
+pub struct Groups {
+    pub count: usize,
+    pub list: [Group; 64],
+}
+
+// What a command asks for, by its kind.
+pub enum Action {
+    Count(u32),
+    Rewrite,
+    Store(u64, u64),
+}
+
+pub struct Command {
+    pub group: u8,
+    pub action: Action,
+}
+
+// A command, and beside it the target of a rewrite; other kinds have that of no cells.
+pub struct Entry {
+    pub command: Command,
+    pub target: Permutation,
+}
+
+pub struct Sheet {
+    pub groups: Groups,
+    pub count: usize,
+    pub entries: [Entry; 1000],
+}
+
+pub struct SheetRead {
+    pub number: u8,
+    pub sheet: Sheet,
+}
+
+pub fn no_group() -> Group
+    ensures { λ r. ⌜ r ≡ noGroup ⌝ }
+{
+    let levels = [0u16; 20];
+    Group { n: 0, levels }
+}
+
+pub fn no_groups() -> [Group; 64]
+    ensures { λ r. ⌜ r ≡ replicate 64 noGroup ⌝ }
+{
+    let none = no_group();
+    [none; 64]
+}
+
+pub fn no_entry() -> Entry
+    ensures { λ r. ⌜ r ≡ noEntry ⌝ }
+{
+    let cells = [0u8; 20];
+    Entry {
+        command: Command {
+            group: 0,
+            action: Action::Count(0),
+        },
+        target: Permutation { n: 0, cells },
+    }
+}
+
+pub fn no_entries() -> [Entry; 1000]
+    ensures { λ r. ⌜ r ≡ replicate 1000 noEntry ⌝ }
+{
+    let none = no_entry();
+    [none; 1000]
+}

@@ -1,0 +1,30 @@
+// Sheets from data/, as the arguments name them, and the text of each after its name.
+// Prints the sheet that argument i names. There is none past the last argument.
+fn print_sheet(i: usize) -> bool {
+    let mut path = io::buffer();
+    let named = os::arg(i, &mut path);
+    if named == 0 {
+        return false;
+    }
+    let fd = os::open_read(&path[..named]);
+    if fd < 0 {
+        os::fail(&path[..named]);
+        return false;
+    }
+    let mut sheet = bench_text::buffers::sheet_buffer();
+    let mut text = bench_text::buffers::text_buffer();
+    let n = io::read_full(fd, &mut sheet);
+    libc::close(fd);
+    io::write_all(libc::STDOUT_FILENO, &path[..named]);
+    io::write_all(libc::STDOUT_FILENO, b"\n");
+    let printed = bench_text::bench::bench(&sheet[..n], &mut text);
+    let length = printed.length;
+    io::write_all(libc::STDOUT_FILENO, &text[..length])
+}
+
+fn main() {
+    let mut i: usize = 1;
+    while i < 1000 && print_sheet(i) {
+        i += 1;
+    }
+}
