@@ -11,6 +11,7 @@ from pathlib import Path
 
 from model import *
 
+
 def do_walk(steps, every, n, *names):
     """Step by step. After each, the rank is the start's plus the steps, modulo n!, and the order of that rank is the one met."""
     order, start, agreed, lines = [*names], rank([*names]), 0, []

@@ -1,4 +1,5 @@
-"""A model of document 01's rules on lists, as the paper words them; nothing of the code. `expected.py` checks it against what documents 01 and 001 print."""
+"""A model of document 01's rules on lists, as the paper words them; nothing of the code. `expected.py` checks it against what documents 01 and 001
+print; the sheets of `sheets` are worked by it too."""
 from math import factorial, perm
 
 # The rules of document 01. An order is a list of names, place 1 first.
@@ -126,7 +127,7 @@ def store_pushes(order, prefix):
 
 
 # Why a job is sent back: the lowest of the numbers whose reason holds, 0 where none does.
-REASONS = dict(size=1, fit=2, muddle=3, tie=4, value=5, ceiling=6, idle=7)
+REASONS = dict(size=1, fit=2, muddle=3, tie=4, value=5, ceiling=6, idle=7, sheet=8)
 
 
 def lowest(**holds):

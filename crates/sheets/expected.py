@@ -1,8 +1,9 @@
 #!/usr/bin/env python3
 """The sheets of the program `sheets` and what it must write for them, worked out from document 01 alone.
 
-The sheets are made below: `data/` gets their bytes, `args` their names, and `stdout` each name and the text after it; some go to `sheets/` at the root as examples. The text comes from a reader of bytes that
-follows document 01, "The bench sheet", and from the rules in the model of `readings`. Nothing of the code is used.
+The sheets are made below: `data/` gets their bytes, `args` their names, and `stdout` each name and the text after it; some go to `sheets/` at
+the root as examples. The text comes from a reader of bytes that follows document 01, "The bench sheet", and from the rules in the model of
+`readings`. Nothing of the code is used.
 
     python3 crates/sheets/expected.py
 """
@@ -12,7 +13,7 @@ from pathlib import Path
 
 HERE = Path(__file__).parent
 sys.path.insert(0, str(HERE.parent / "readings"))
-from model import do_count_up, do_rewrite, do_store, rank, read, unrank
+from model import REASONS, do_count_up, do_rewrite, do_store, rank, read, unrank
 
 
 # Document 01's reader: the first fault met decides.
@@ -22,7 +23,7 @@ class Fault(Exception):
     pass
 
 
-SIZE, TIE, SHEET = 1, 4, 8
+SIZE, TIE, SHEET = REASONS["size"], REASONS["tie"], REASONS["sheet"]
 
 
 class Bytes:
@@ -44,65 +45,65 @@ class Bytes:
         return number
 
 
-def read_group(sheet):
-    n = sheet.number(1)
+def read_group(left):
+    n = left.number(1)
     if not 2 <= n <= 20:
         raise Fault(SIZE)
-    levels = [sheet.number(2) for _ in range(n)]
+    levels = [left.number(2) for _ in range(n)]
     if len({*levels}) < n:
         raise Fault(TIE)
     return levels
 
 
-def read_command(sheet, groups):
-    kind = sheet.within(1, 1, 3)
-    g = sheet.within(1, 0, len(groups) - 1)
+def read_command(left, groups):
+    """Its kind, its group number, and what it does on levels. A rewrite has as many names as its group has cells, and its push list is long enough."""
+    kind = left.within(1, 1, 3)
+    g = left.within(1, 0, len(groups) - 1)
     if kind == 1:
-        return g, do_count_up, [sheet.number(4)]
+        k = left.number(4)
+        return kind, g, lambda levels: do_count_up(k, *levels)
     if kind == 2:
-        return g, rewrite_from, [sheet.number(1) for _ in groups[g]]
-    m, symbol = sheet.number(8), sheet.number(8)
-    return g, do_store, [symbol, m]
+        names = [left.number(1) for _ in groups[g]]
+        return kind, g, lambda levels: do_rewrite(len(names) - 1, len(levels), *levels, len(names), *names)
+    m, symbol = left.number(8), left.number(8)
+    return kind, g, lambda levels: do_store(symbol, m, *levels)
 
 
-def rewrite_from(*names_and_levels):
-    """The names of a rewrite are as many as the group's levels, so half of these. The push list is long enough."""
-    n = len(names_and_levels) // 2
-    names, levels = names_and_levels[:n], names_and_levels[n:]
-    return do_rewrite(n - 1, n, *levels, n, *names)
+MET = set()  # each kind of command with each number that it got
 
 
 def text(data):
     """The lines that the program prints for a sheet."""
-    sheet = Bytes(data)
+    left = Bytes(data)
     try:
-        groups = [read_group(sheet) for _ in range(sheet.within(1, 1, 64))]
-        commands = [read_command(sheet, groups) for _ in range(sheet.within(2, 0, 1000))]
-        if sheet.left:
+        groups = [read_group(left) for _ in range(left.within(1, 1, 64))]
+        commands = [read_command(left, groups) for _ in range(left.within(2, 0, 1000))]
+        if left.left:
             raise Fault(SHEET)
     except Fault as fault:
         return [["s", *fault.args]]
     lines = []
-    for place, (g, job, numbers) in enumerate(commands, 1):
-        number, pushes, _, *rest = job(*numbers, *groups[g])
+    for place, (kind, g, job) in enumerate(commands, 1):
+        number, pushes, _, *rest = job(groups[g])
         groups[g] = rest[:len(groups[g])]
         lines.append(["c", place, number, pushes])
+        MET.add((kind, number))
     return lines + [["g", g, rank(read(levels)), *levels] for g, levels in enumerate(groups)]
 
 
 # Sheets: their parts as lists of bytes.
 
 
-def number(value, length):
+def spelled(value, length):
     return [*value.to_bytes(length, "little")]
 
 
 def group(*levels):
-    return [len(levels)] + [byte for level in levels for byte in number(level, 2)]
+    return [len(levels)] + [byte for level in levels for byte in spelled(level, 2)]
 
 
 def count(g, k):
-    return [1, g] + number(k, 4)
+    return [1, g] + spelled(k, 4)
 
 
 def rewrite(g, *names):
@@ -110,7 +111,7 @@ def rewrite(g, *names):
 
 
 def store(g, m, symbol):
-    return [3, g] + number(m, 8) + number(symbol, 8)
+    return [3, g] + spelled(m, 8) + spelled(symbol, 8)
 
 
 def joined(parts):
@@ -118,7 +119,7 @@ def joined(parts):
 
 
 def sheet(groups, commands=()):
-    return [len(groups)] + joined(groups) + number(len(commands), 2) + joined(commands)
+    return [len(groups)] + joined(groups) + spelled(len(commands), 2) + joined(commands)
 
 
 def spread(n, start=0):
@@ -126,9 +127,13 @@ def spread(n, start=0):
     return [start + (7 * cell * cell + 3 * cell) % 1009 for cell in range(1, n + 1)]
 
 
+def scattered(n, i):
+    """A rank of n cells, or a symbol of n!; those of a thousand i differ where n! has room for them."""
+    return (i + 1) * 1_000_003 * 998_244_353 % factorial(n)
+
+
 def shuffled(n, i):
-    """An order of n cells, another for each i."""
-    return unrank(n, (i + 1) * 1_000_003 * 998_244_353 % factorial(n))
+    return unrank(n, scattered(n, i))
 
 
 PAPER = [1, 3, 3, 0, 1, 0, 2, 0, 3, 0, 1, 0, 4, 0, 0, 0, 2, 0, 3, 1, 2, 3, 0, 3, 0, 0, 0, 0, 0, 0, 0, 3, 0, 0, 0, 0, 0, 0, 0]
@@ -148,7 +153,7 @@ GOOD = {
     "sixty-four-groups": sheet([group(*spread(2 + g % 19, g)) for g in range(64)], [count(63, 5), count(0, 7), rewrite(63, *shuffled(8, 5))]),
     "sixty-four-groups-no-commands": sheet(FULL),
     "thousand-counts": sheet(FULL, [count(i % 64, 60) for i in range(1000)]),
-    "thousand-stores": sheet(FULL, [store(i % 64, LAST, (i + 1) * 1_000_003 * 998_244_353 % LAST) for i in range(1000)]),
+    "thousand-stores": sheet(FULL, [store(i % 64, LAST, scattered(20, i)) for i in range(1000)]),
     "thousand-on-one": sheet([FOUR], [count(0, 1 + i % 24) for i in range(1000)]),
     "longest": LONGEST,
     "levels-at-their-ends": sheet([group(0, 65535), group(65535, 0, 1), group(*range(65516, 65536))], [count(0, 0), count(2, 0)]),
@@ -192,14 +197,14 @@ GOOD = {
 
 EXAMPLES = ["paper", "every-size", "by-turns", "refused-then-done", "thousand-counts", "longest", "tie-last", "one-byte-after"]
 
-NO_COMMANDS = number(0, 2)
-ONE = number(1, 2)
+NO_COMMANDS = spelled(0, 2)
+ONE = spelled(1, 2)
 
 
 # A sheet with a command of each kind, by its parts: an early end is tried at every byte of it.
-PARTS = [("groups", [2]), ("first-n", [3]), ("first-levels", THREE[1:]), ("last-n", [4]), ("last-levels", FOUR[1:]), ("commands", number(4, 2)),
-         ("kind-1", [1]), ("group", [0]), ("k", number(4, 4)), ("kind-2", [2]), ("rewrite-group", [1]), ("names", [4, 3, 2, 1]),
-         ("kind-3", [3]), ("store-group", [1]), ("m", number(24, 8)), ("s", number(7, 8)), ("last-kind", [1]), ("last-group", [1]), ("last-k", number(9, 4))]
+PARTS = [("groups", [2]), ("first-n", [3]), ("first-levels", THREE[1:]), ("last-n", [4]), ("last-levels", FOUR[1:]), ("commands", spelled(4, 2)),
+         ("kind-1", [1]), ("group", [0]), ("k", spelled(4, 4)), ("kind-2", [2]), ("rewrite-group", [1]), ("names", [4, 3, 2, 1]),
+         ("kind-3", [3]), ("store-group", [1]), ("m", spelled(24, 8)), ("s", spelled(7, 8)), ("last-kind", [1]), ("last-group", [1]), ("last-k", spelled(9, 4))]
 
 
 def cuts():
@@ -239,7 +244,7 @@ FAULTY = {
         "tie-end": [1] + group(7, 7),
         # before other faults
         "tie-then-size": [2] + group(7, 7) + [1],
-        "tie-then-count": [1] + group(7, 7) + number(1001, 2),
+        "tie-then-count": [1] + group(7, 7) + spelled(1001, 2),
         "tie-then-kind": [1] + group(7, 7) + ONE + [9, 0],
         "tie-and-too-long": [1] + group(7, 7) + [1] * 30000,
     },
@@ -256,23 +261,23 @@ FAULTY = {
         "tie-before-last-level-missing": [1] + group(7, 7, 8)[:-2],
         "equal-low-bytes": [1] + group(0x0105, 0x0205) + NO_COMMANDS + [0],
         # count of commands
-        "commands-1001": [1] + TWO + number(1001, 2) + count(0, 1) * 1001,
-        "commands-65535": [1] + TWO + number(65535, 2) + count(0, 1) * 4,
-        "commands-1001-end": [1] + TWO + number(1001, 2),
-        "commands-one-too-few": [1] + TWO + number(3, 2) + count(0, 1) * 2,
+        "commands-1001": [1] + TWO + spelled(1001, 2) + count(0, 1) * 1001,
+        "commands-65535": [1] + TWO + spelled(65535, 2) + count(0, 1) * 4,
+        "commands-1001-end": [1] + TWO + spelled(1001, 2),
+        "commands-one-too-few": [1] + TWO + spelled(3, 2) + count(0, 1) * 2,
         # kind and group number, in the first and in the last command
         "kind-0": [1] + THREE + ONE + [0, 0, 0, 0, 0, 0],
         "kind-4": [1] + THREE + ONE + [4, 0, 0, 0, 0, 0],
         "kind-255": [1] + THREE + ONE + [255, 0, 0, 0, 0, 0],
-        "kind-0-last": [1] + THREE + number(3, 2) + count(0, 1) + rewrite(0, 3, 2, 1) + [0, 0, 0, 0, 0, 0],
-        "kind-4-after-done": [1] + THREE + number(2, 2) + count(0, 4) + [4, 0],
-        "kind-5-of-1000": [1] + THREE + number(1000, 2) + count(0, 1) * 999 + [5, 0, 0, 0, 0, 0],
+        "kind-0-last": [1] + THREE + spelled(3, 2) + count(0, 1) + rewrite(0, 3, 2, 1) + [0, 0, 0, 0, 0, 0],
+        "kind-4-after-done": [1] + THREE + spelled(2, 2) + count(0, 4) + [4, 0],
+        "kind-5-of-1000": [1] + THREE + spelled(1000, 2) + count(0, 1) * 999 + [5, 0, 0, 0, 0, 0],
         "group-1-of-1": [1] + THREE + ONE + count(1, 1),
         "group-255": [1] + THREE + ONE + count(255, 1),
         "group-64-of-64": [64] + joined(FULL) + ONE + count(64, 1),
         "group-2-of-2-rewrite": [2] + THREE + FOUR + ONE + rewrite(2, 1, 2, 3),
-        "group-2-of-2-store-last": [2] + THREE + FOUR + number(2, 2) + count(1, 1) + store(2, 6, 1),
-        "group-1-in-command-1000": [1] + THREE + number(1000, 2) + count(0, 1) * 999 + count(1, 1),
+        "group-2-of-2-store-last": [2] + THREE + FOUR + spelled(2, 2) + count(1, 1) + store(2, 6, 1),
+        "group-1-in-command-1000": [1] + THREE + spelled(1000, 2) + count(0, 1) * 999 + count(1, 1),
         # names of another group's n leave bytes over, or too few
         "names-of-four-on-three": sheet([THREE, FOUR], [rewrite(0, 4, 3, 2, 1)]),
         "names-of-three-on-four": sheet([THREE, FOUR], [rewrite(1, 3, 2, 1)]),
@@ -292,6 +297,7 @@ def main():
     assert len(LONGEST) == 24627
     assert not any(text(made)[0][0] == "s" for made in [*GOOD.values(), joined(part for _, part in PARTS)])
     assert all(text(made) == [["s", number]] for number, faulty in FAULTY.items() for made in faulty.values())
+    assert MET == {(1, 0), (1, 6), (2, 0), (2, 3), (2, 6), (3, 0), (3, 5), (3, 6)}, "each refusal of each command is met"
     sheets = {**GOOD, **{name: made for faulty in FAULTY.values() for name, made in faulty.items()}}
     data = HERE / "data"
     data.mkdir(exist_ok=True)

@@ -10,6 +10,7 @@ fn main() {
         return;
     }
     let n = input.length;
+    // Done for every sheet: the buffer is long enough for any text.
     let printed = bench_text::bench::bench(&sheet[..n], &mut text);
     let length = printed.length;
     if !io::write_all(libc::STDOUT_FILENO, &text[..length]) {

@@ -1,11 +1,5 @@
 -- What holds of every text; document 01's sheet has its output, by computing. Assumes nothing.
-use mathlib.Core.Path.{refl, ap}
-use Rattle.sheet.specs.Sheet.{sheet, group, command, commands, commandRow, bodyAt, countAt, rewriteAt, storeAt}
-use Rattle.sheet.specs.Bytes.{after, check, many, number, little}
-use Rattle.bench_text.specs.Text.{textOf, line, places, decimal, faultLine, commandLine, commandLines, groupLine, groupLines}
-use Rattle.sheet.proofs.Claims.{sheets}
-use Rattle.bench_text.specs.Claims.{Texts}
-use Rattle.bench_text.specs.Work.{answers, groupsAfterAll}
+use mathlib.Core.Path.{ap}
 use Rattle.theory.specs.CountUp.{callNumber, callPushes, callLevels, countUp, nextCell}
 use Rattle.theory.specs.Lists.{delta}
 use Rattle.theory.specs.Levels.{insertByLevel, sortByLevel, permutationOf, pushLevel}
@@ -17,7 +11,15 @@ use Rattle.theory.specs.Rank.{digit, remaining, rank}
 use Rattle.permutation.specs.Records.{onceEach, allZero, faultOf}
 use Rattle.charge.specs.Answers.{counted, readNumber}
 use Rattle.rewriting.specs.Answers.{rewriteFault, rewriteReason, rewritten, rewriteLevels, stored, storeLevels, storeReason, prefixReason}
+use Rattle.sheet.proofs.Claims.{sheets}
+use Rattle.bench_text.specs.Text.{textOf, line, places, decimal, commandLine, commandLines, groupLine, groupLines}
+use Rattle.bench_text.specs.Claims.{Texts}
+use Rattle.bench_text.specs.Work.{answers, groupsAfterAll}
 
 pub texts : Texts
-unfolding sheet group command commands commandRow bodyAt countAt rewriteAt storeAt after check many number little textOf line places decimal faultLine commandLine commandLines groupLine groupLines answers groupsAfterAll callNumber callPushes callLevels countUp nextCell insertByLevel sortByLevel permutationOf pushLevel successor smaller placeOf digit remaining rank rewriteFault rewriteReason rewritten rewriteLevels stored storeLevels storeReason prefixReason counted readNumber onceEach allZero faultOf delta rewriteNumber rewritePushes push
-texts = record { example = refl; decided = λ s. ap textOf (sheets .decided s) }
+unfolding
+    textOf line places decimal commandLine commandLines groupLine groupLines answers groupsAfterAll
+    counted callNumber callPushes callLevels countUp nextCell pushLevel insertByLevel sortByLevel permutationOf successor smaller placeOf
+    rewritten rewriteLevels rewriteReason rewriteFault rewriteNumber rewritePushes readNumber faultOf onceEach allZero push
+    stored storeLevels storeReason prefixReason digit remaining rank delta
+texts = record { example = ap textOf (sheets .example); decided = λ s. ap textOf (sheets .decided s) }

@@ -5,18 +5,20 @@ use Prim.Native.Nat.{ℕ, _-_, _≤_}
 use native.Mathlib.Omega.{arith}
 use lib.ListN.{length, take, replicate}
 use lib.Seq.{take-at}
+use Rattle.theory.proofs.Padding.{padded-length}
 use Rattle.sheet.specs.Bytes.{got}
 use Rattle.sheet.specs.Sheet.{Contents, sheet}
 use Rattle.sheet.specs.Held.{noContents, heldOf, groupsIn, contentsOf, sheetRead}
 use Rattle.sheet.specs.declared.held.Sheet.{Sheet}
 use Rattle.sheet.specs.declared.held.SheetRead.{SheetRead}
 use Rattle.sheet.proofs.Answers.{Numbered, sheet-numbered, answered-fault, answered-got}
-use Rattle.sheet.proofs.Rows.{padded-length, groups-back}
+use Rattle.sheet.proofs.Rows.{groups-back}
 use Rattle.sheet.proofs.Claims.{sheets}
 use Rattle.bench_text.specs.Work.{answersOf, groupsLeft}
 use Rattle.bench_text.specs.Text.{faultLine, commandLines, groupLines, textOf}
 use Rattle.bench_text.specs.Answers.{noAnswer, outcomeOf, workedOf}
-use Rattle.bench_text.specs.Laying.{Sheet-held, Outcome-held}
+use Rattle.sheet.specs.Standing.{SheetHeld}
+use Rattle.bench_text.specs.Laying.{OutcomeHeld}
 use Rattle.bench_text.specs.declared.answers.Outcome.{Outcome}
 use Rattle.bench_text.specs.declared.answers.Worked.{Worked}
 use Rattle.bench_text.proofs.Working.{answers-length, outcome-held}
@@ -27,7 +29,7 @@ pub record Accepted (s : List ℕ) (h : Sheet) : Type 0 where
   pub end : ℕ
   pub reads : sheet s ≡ got contents end
   pub says : contentsOf h ≡ contents
-  pub sheet-held : Sheet-held h
+  pub sheet-held : SheetHeld h
 
 pub accepted : (s : List ℕ) (r : SheetRead) → r ≡ sheetRead (sheet s) → r .number ≡ 0 → Accepted s (r .sheet)
 unfolding sheetRead
@@ -69,7 +71,7 @@ worked-numbered = record { bad = λ f. refl; good = λ c end. refl }
 pub record Printable (s : List ℕ) (o : Outcome) : Type 0 where
   pub few : o .count ≤ 1000
   pub long : length (o .answers) ≡ 1000
-  pub outcome-held : Outcome-held o
+  pub outcome-held : OutcomeHeld o
   pub text : commandLines 1 (take (o .count) (o .answers)) ++ groupLines 0 (groupsIn (o .groups)) ≡ textOf (sheet s)
 
 printable-of : (s : List ℕ) (c : Contents) (end : ℕ) → sheet s ≡ got c end → Printable s (outcomeOf c)

@@ -1,4 +1,4 @@
--- The rows of the text, as pieces: bytes, fields, and the lines of commands and of groups. Assumes nothing.
+-- The rows of the text, as pieces: fields, and the lines of commands and of groups. Assumes nothing.
 use mathlib.Core.Path.{refl}
 use mathlib.Core.List.{List, [], _∷_}
 use Prim.Native.Nat.{ℕ, _+_}
@@ -6,9 +6,6 @@ use native.Mathlib.Nat.{add-zero}
 use Rattle.bench_text.specs.Laying.{Puts}
 use Rattle.bench_text.specs.Text.{newline, line, field, fields, commandLine, commandLines, groupLine, groupLines}
 use Rattle.bench_text.proofs.Putting.{Grows, grows, puts-then}
-
-pub bytes-grow : Grows (λ xs. xs) (λ i x. x ∷ [])
-bytes-grow = grows (λ p x. x ∷ []) (λ p xs. xs) (λ p. refl) (λ p x xs. refl) 0
 
 pub fields-grow : Grows fields (λ i. field)
 fields-grow = grows (λ p. field) (λ p. fields) (λ p. refl) (λ p x xs. refl) 0

@@ -4,9 +4,10 @@ use mathlib.Core.List.{List, _++_}
 use Prim.Native.Nat.{ℕ, _+_, _≤_, _<_}
 use native.Mathlib.Omega.{arith}
 use lib.ListN.{length, take, drop, length-append}
-use lib.Seq.{take-length, length-take-le}
+use lib.Seq.{take-length}
 use borrow.Author.Tests.{le-leb, lt-leb}
 use Rattle.io.specs.Counts.{Counts}
+use Rattle.io.proofs.Counting.{counts}
 use Rattle.bench_text.specs.Answers.{printed, printedOn}
 use Rattle.bench_text.specs.Laying.{Puts}
 use Rattle.bench_text.specs.declared.answers.Printed.{Printed}
@@ -37,5 +38,4 @@ module _ {page laid : List ℕ} {end : ℕ} {text : List ℕ} (p : Puts page 0 l
       pub counted : Counts end after
       counted =
           let long : length after ≡ length text + length (drop (length text) buffer) = ap length is ∙ length-append text _ in
-          let within : end ≤ length after = omega (arith, laid-length) in
-          (within, sym (length-take-le end after within))
+          counts end after (omega (arith, laid-length))

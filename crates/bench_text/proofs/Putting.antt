@@ -1,11 +1,12 @@
 -- Text put piece by piece: nothing, one byte, a piece after another, and the next of a row of pieces. Assumes nothing.
 use mathlib.Core.Path.{_≡_, refl, sym, ap, _∙_}
 use mathlib.Core.List.{List, [], _∷_, _++_, append-nil, append-assoc}
-use Prim.Native.Nat.{ℕ, suc, _+_, _*_, _≤_, _<_}
+use Prim.Native.Nat.{ℕ, suc, _+_, _-_, _*_, _≤_, _<_}
 use native.Mathlib.Numerals.{add-one}
 use native.Mathlib.Omega.{arith}
 use lib.ListN.{length, getD, take, set, length-append, length-set}
-use lib.Seq.{length-take-le, take-all, take-suc, take-suc-set}
+use lib.Seq.{length-take-le, take-length, take-all, take-suc, take-suc-set, take-append-seam, take-append-add}
+use borrow.Rule.Slice.PartMut.{postOf, putMid}
 use Rattle.bench_text.specs.Laying.{Puts}
 
 pub puts-nothing : (text : List ℕ) (at : ℕ) → Puts text at text at []
@@ -14,6 +15,17 @@ puts-nothing text at = record { end-is = omega arith; long = refl; front = sym (
 pub puts-byte : (text : List ℕ) (at byte : ℕ) → at < length text → Puts text at (set text at byte) (at + 1) (byte ∷ [])
 puts-byte text at byte h =
     record { end-is = omega arith; long = length-set text at byte; front = rw (add-one at) (take-suc-set text at byte h) }
+
+-- bytes copied over those that stood from a place on
+pub puts-copied :
+    (a : List ℕ) (at : ℕ) (xs past ys : List ℕ) {r : ℕ} → let b : List ℕ = putMid at (length a - at) a ys in
+    ys ≡ take (length xs) xs ++ past → at ≤ length a → length b ≡ length a → r ≡ at + length xs → Puts a at b r xs
+puts-copied a at xs past ys {r} e h long end =
+    let rest : List ℕ = postOf at (length a - at) a in
+    let laid : ys ++ rest ≡ xs ++ (past ++ rest) = rw (e, take-length xs) (append-assoc xs past rest) in
+    let front : take (length (take at a) + length xs) (take at a ++ (ys ++ rest)) ≡ take at a ++ xs =
+    take-append-add (take at a) (ys ++ rest) (length xs) ∙ rw (laid, take-append-seam xs (past ++ rest)) in
+    record { end-is = end; long = long; front = rw end (rw (length-take-le at a h) at front) }
 
 -- one piece after another
 pub puts-then :

@@ -1,57 +1,42 @@
 -- Working through a sheet in memory: groups in their row, and what the commands so far answered and left. Assumes nothing.
 use mathlib.Core.Path.{_≡_, refl, sym, ap, _∙_}
 use mathlib.Core.List.{List, [], _∷_, _++_, map}
-use Prim.Native.Nat.{ℕ, zero, suc, _+_, _-_, _≤_, _<_}
+use Prim.Native.Nat.{ℕ, suc, _+_, _-_, _≤_, _<_}
 use native.Mathlib.Numerals.{add-one}
 use native.Mathlib.Omega.{arith}
-use lib.ListN.{length, getD, take, drop, set, replicate, length-set, length-map, List·getD-map, List·getD-append}
-use lib.Seq.{length-take-le, take-all, take-suc, take-append-seam, drop-append-seam, getD-take, set-append-left, getD-set-same, getD-set-other}
+use lib.ListN.{length, getD, take, drop, set, replicate, length-set, length-map}
+use lib.Seq.{length-take-le, take-all, take-suc, drop-append-seam, getD-take, set-append-left, getD-set-same, getD-set-other}
+use Rattle.theory.specs.Lists.{padded}
 use Rattle.theory.proofs.Cases.{by-name}
+use Rattle.theory.proofs.Padding.{getD-any, map-set, padded-none, padded-snoc}
 use Rattle.permutation.specs.declared.answers.Permutation.{Permutation}
 use Rattle.charge.specs.Answers.{readNumber}
 use Rattle.charge.specs.declared.answers.Pushes.{Pushes}
 use Rattle.charge.proofs.Numbers.{readable}
 use Rattle.sheet.specs.Sheet.{Contents}
-use Rattle.sheet.specs.Claims.{Valid}
-use Rattle.theory.specs.Lists.{padded}
-use Rattle.sheet.specs.Held.{groupOf, noGroup, groupsOf, noEntry, heldOf, levelsOf, groupsIn, contentsOf}
-use Rattle.sheet.specs.Rows.{Holds}
-use Rattle.sheet.proofs.Rows.{padded-none, padded-snoc, groups-back}
+use Rattle.sheet.specs.Claims.{Each, Valid}
+use Rattle.sheet.specs.Held.{groupOf, groupsOf, noEntry, heldOf, levelsOf, groupsIn, contentsOf}
+use Rattle.sheet.specs.Standing.{GroupHeld, GroupsHeld, SheetHeld}
+use Rattle.sheet.proofs.Rows.{group-levels, groups-back, groups-at, groups-held, held-count, held-at}
 use Rattle.sheet.specs.declared.held.Action.{Action}
 use Rattle.sheet.specs.declared.held.Group.{Group}
 use Rattle.sheet.specs.declared.held.Groups.{Groups}
 use Rattle.sheet.specs.declared.held.Entry.{Entry}
 use Rattle.sheet.specs.declared.held.Sheet.{Sheet}
-use Rattle.bench_text.specs.Work.{jobAnswer, jobLevels, levelsFor, answerTo, groupsAfter, answers, groupsAfterAll, rankOf, groupsLeft}
+use Rattle.bench_text.specs.Work.{jobLevels, levelsFor, answerTo, groupsAfter, answers, groupsAfterAll, rankOf, groupsLeft}
 use Rattle.bench_text.specs.Answers.{noAnswer, outcomeOf}
-use Rattle.bench_text.specs.Laying.{Group-held, Sheet-held, Outcome-held}
+use Rattle.bench_text.specs.Laying.{OutcomeHeld}
+use Rattle.bench_text.specs.Acting.{acted}
 use Rattle.bench_text.specs.declared.work.Acted.{Acted}
 use Rattle.bench_text.specs.declared.answers.Outcome.{Outcome}
 use Rattle.bench_text.proofs.Jobs.{job-length, job-readable}
 
--- inside a list, what stands past its end does not matter
-pub getD-any : {A : Type 0} (l : List A) (i : ℕ) (d e : A) → i < length l → getD l i d ≡ getD l i e
-getD-any [] i d e h = absurd (omega arith)
-getD-any (x ∷ l) zero d e h = refl
-getD-any (x ∷ l) (suc i) d e h = getD-any l i d e (omega arith)
-
--- an entry of a row that holds what f makes of a list
-pub padded-map-at : {A B : Type 0} (room : ℕ) (z : B) (f : A → B) (xs : List A) (i : ℕ) (d : B) (e : A) → i < length xs
-    → getD (padded room z (map f xs)) i d ≡ f (getD xs i e)
-padded-map-at room z f xs i d e h =
-    let there : i < length (map f xs) = omega (arith, length-map xs f) in
-    List·getD-append (map f xs) _ d i there ∙ getD-any (map f xs) i d (f e) there ∙ List·getD-map f xs i e
-
 -- ---- a group
 
--- what was held is what is read back
-group-levels : (L : List ℕ) → levelsOf (groupOf L) ≡ L
-group-levels L = take-append-seam L (replicate (20 - length L) 0)
-
-group-held : (L : List ℕ) → readNumber L ≡ 0 → Group-held (groupOf L)
+group-held : (L : List ℕ) → readNumber L ≡ 0 → GroupHeld (groupOf L)
 group-held L h = let back = group-levels L in record { held = ap groupOf (sym back); readable = rw back h }
 
-module _ {g : Group} (h : Group-held g) where
+module _ {g : Group} (h : GroupHeld g) where
   pub group-size : g .n ≡ length (levelsOf g)
   group-size = ap (λ (x : Group). x .n) (h .held)
 
@@ -69,44 +54,16 @@ module _ {g : Group} (h : Group-held g) where
 
 -- ---- groups in their row
 
-map-set : {A B : Type 0} (f : A → B) (l : List A) (i : ℕ) (a : A) → set (map f l) i (f a) ≡ map f (set l i a)
-map-set f [] i a = refl
-map-set f (x ∷ l) zero a = refl
-map-set f (x ∷ l) (suc i) a = ap (λ (r : List _). f x ∷ r) (map-set f l i a)
+groups-set : (Ls : List (List ℕ)) (g : ℕ) → g < length Ls → (L : List ℕ)
+    → _≡_ {A = Groups} (record { count = length Ls; list = set (groupsOf Ls .list) g (groupOf L) }) (groupsOf (set Ls g L))
+groups-set Ls g h L =
+    let there : g < length (map groupOf Ls) = omega (arith, length-map Ls groupOf) in
+    let same : length (map groupOf (set Ls g L)) ≡ length (map groupOf Ls) =
+    length-map (set Ls g L) groupOf ∙ length-set Ls g L ∙ sym (length-map Ls groupOf) in
+    rw (length-set Ls g L, set-append-left (map groupOf Ls) _ g (groupOf L) there, map-set groupOf Ls g L, same)
 
-module _ (Ls : List (List ℕ)) (g : ℕ) (h : g < length Ls) where
-  groups-at : (d : Group) → getD (groupsOf Ls .list) g d ≡ groupOf (getD Ls g [])
-  groups-at d = padded-map-at 64 noGroup groupOf Ls g d [] h
-
-  groups-set : (L : List ℕ) → _≡_ {A = Groups} (record { count = length Ls; list = set (groupsOf Ls .list) g (groupOf L) }) (groupsOf (set Ls g L))
-  groups-set L =
-      let there : g < length (map groupOf Ls) = omega (arith, length-map Ls groupOf) in
-      let same : length (map groupOf (set Ls g L)) ≡ length (map groupOf Ls) =
-      length-map (set Ls g L) groupOf ∙ length-set Ls g L ∙ sym (length-map Ls groupOf) in
-      rw (length-set Ls g L, set-append-left (map groupOf Ls) _ g (groupOf L) there, map-set groupOf Ls g L, same)
-
--- each has a permutation
-abbrev Each : List (List ℕ) → Type 0
-Each Ls = (g : ℕ) → g < length Ls → readNumber (getD Ls g []) ≡ 0
-
-pub groups-held : (Ls : List (List ℕ)) → length Ls ≤ 64 → Each Ls → Holds (groupsOf Ls)
-groups-held Ls few each =
-    let back = groups-back Ls in
-    record { held = ap groupsOf (sym back); few = few; readable = rw back each }
-
-module _ {groups : Groups} (h : Holds groups) where
-  pub held-count : groups .count ≡ length (groupsIn groups)
-  held-count = ap (λ (x : Groups). x .count) (h .held)
-
-  module _ (g : ℕ) (below : g < groups .count) (d : Group) where
-    pub held-at : getD (groups .list) g d ≡ groupOf (getD (groupsIn groups) g [])
-    held-at = ap (λ (x : Groups). getD (x .list) g d) (h .held) ∙ groups-at (groupsIn groups) g (omega (arith, held-count)) d
-
-    pub held-readable : Group-held (getD (groups .list) g d)
-    held-readable = rw held-at (group-held _ (h .readable g (omega (arith, held-count))))
-
-    pub held-levels : levelsOf (getD (groups .list) g d) ≡ getD (groupsIn groups) g []
-    held-levels = ap levelsOf held-at ∙ group-levels _
+pub group-at-held : {groups : Groups} → GroupsHeld groups → (g : ℕ) → g < groups .count → (d : Group) → GroupHeld (getD (groups .list) g d)
+group-at-held h g below d = rw (held-at h g below d) (group-held _ (h .readable g (omega (arith, held-count h))))
 
 -- ---- a row of commands
 
@@ -149,12 +106,12 @@ groupsAfterAll-each Ls [] each = each
 groupsAfterAll-each Ls (e ∷ es) each = groupsAfterAll-each (groupsAfter Ls e) es (after-each e Ls each)
 
 -- whatever commands of a sheet without fault are done, the groups that they leave each have a permutation
-pub groupsAfterAll-held : (c : Contents) (es : List Entry) → Valid c → Holds (groupsOf (groupsAfterAll (c .groups) es))
+pub groupsAfterAll-held : (c : Contents) (es : List Entry) → Valid c → GroupsHeld (groupsOf (groupsAfterAll (c .groups) es))
 groupsAfterAll-held c es v =
     groups-held (groupsAfterAll (c .groups) es) (omega (arith, v .few, groupsAfterAll-length (c .groups) es)) (groupsAfterAll-each (c .groups) es (v .readable))
 
 -- so the outcome can be printed
-pub outcome-held : (c : Contents) → Valid c → Outcome-held (outcomeOf c)
+pub outcome-held : (c : Contents) → Valid c → OutcomeHeld (outcomeOf c)
 unfolding outcomeOf
 outcome-held c v = record { holds = groupsAfterAll-held c (c .entries) v; ranks-are = rw (groups-back (groupsLeft c)) }
 
@@ -170,7 +127,7 @@ pub record Progress (sheet : Sheet) (said : List Pushes) (groups : Groups) (i : 
   pub answered : said ≡ padded 1000 noAnswer (answers (contentsOf sheet .groups) (doneOf sheet i))
   pub left : groups ≡ groupsOf (groupsAfterAll (contentsOf sheet .groups) (doneOf sheet i))
 
-module _ {sheet : Sheet} (h : Sheet-held sheet) where
+module _ {sheet : Sheet} (h : SheetHeld sheet) where
   sheet-count : sheet .count ≡ length (contentsOf sheet .entries)
   unfolding heldOf
   sheet-count = ap (λ (s : Sheet). s .count) (h .held)
@@ -185,7 +142,7 @@ module _ {sheet : Sheet} (h : Sheet-held sheet) where
   }
 
   module _ {said : List Pushes} {groups : Groups} {i : ℕ} (v : Progress sheet said groups i) where
-    pub progress-held : Holds groups
+    pub progress-held : GroupsHeld groups
     progress-held = rw (v .left) (groupsAfterAll-held (contentsOf sheet) (doneOf sheet i) (h .valid))
 
     module _ (more : i < sheet .count) (d : Entry) where
@@ -208,11 +165,7 @@ module _ {sheet : Sheet} (h : Sheet-held sheet) where
             ap (λ (x : Groups). x .count) (v .left) ∙ groupsAfterAll-length (contentsOf sheet .groups) (doneOf sheet i) in
             rw (count, is) (rw same at named, h .valid .few)
 
-        pub step : (z : Group) {r : Acted}
-            → r ≡ record {
-              answer = jobAnswer (next .command .action) (next .target) (levelsOf (getD (groups .list) g z));
-              group = groupOf (jobLevels (next .command .action) (next .target) (levelsOf (getD (groups .list) g z)));
-            }
+        pub step : (z : Group) {r : Acted} → r ≡ acted (next .command .action) (next .target) (levelsOf (getD (groups .list) g z))
             → Progress sheet (set said i (r .answer)) (record { count = groups .count; list = set (groups .list) g (r .group) }) (i + 1)
         step z {r} e =
             let Gs : List (List ℕ) = contentsOf sheet .groups in
@@ -224,16 +177,15 @@ module _ {sheet : Sheet} (h : Sheet-held sheet) where
             ∙ ap levelsOf (groups-at Ls g inside z)
             ∙ group-levels (getD Ls g [])
             ∙ ap (λ (k : ℕ). getD Ls k []) is in
-            let acted : r ≡ record { answer = answerTo Ls next; group = groupOf (jobLevels (next .command .action) (next .target) (levelsFor Ls next)) } =
-            e ∙ rw levels in
+            let did : r ≡ acted (next .command .action) (next .target) (levelsFor Ls next) = e ∙ rw levels in
             let more-done : take (i + 1) es ≡ take i es ++ next ∷ [] = rw (add-one, take-suc es i d there, next-is) in
             let long : length (answers Gs (take i es)) ≡ i = answers-length Gs (take i es) ∙ length-take-le i es (omega (arith, there)) in
             record {
               within = omega arith;
               most = v .most;
-              answered = rw (more-done, answers-snoc next Gs (take i es), acted, v .answered)
+              answered = rw (more-done, answers-snoc next Gs (take i es), did, v .answered)
                   (padded-snoc 1000 noAnswer i (answers Gs (take i es)) (answerTo Ls next) long (omega (arith, v .most)));
-              left = rw (more-done, groupsAfterAll-snoc next Gs (take i es), acted, v .left, ← is) (groups-set Ls g inside _);
+              left = rw (more-done, groupsAfterAll-snoc next Gs (take i es), did, v .left, ← is) (groups-set Ls g inside _);
             }
 
     pub end : {ranks : List ℕ} → sheet .count ≤ i → ranks ≡ padded 64 0 (map rankOf (groupsIn groups))

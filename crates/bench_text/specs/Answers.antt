@@ -42,10 +42,10 @@ workedOf (got c end) = record { number = 0; outcome = outcomeOf c }
 abbrev pub printNumber : List ℕ → ℕ → ℕ
 printNumber text size = cond (leb (length text) size) done fit
 
--- the text's length, or fit and 0
+-- the text's length; refused, "0 for every other number"
 unfoldable pub printed : List ℕ → ℕ → Printed
 printed text size = record { number = printNumber text size; length = given (printNumber text size) (length text) 0 }
 
--- the text at the buffer's start, and past it what stood there before; or the buffer as it was
+-- the text at the buffer's start, and past it what stood there before; refused, "no change in any lent list"
 unfoldable pub printedOn : List ℕ → List ℕ → List ℕ
 printedOn text buffer = given (printNumber text (length buffer)) (text ++ drop (length text) buffer) buffer

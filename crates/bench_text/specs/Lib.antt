@@ -4,3 +4,4 @@ pub mod Text
 pub mod Answers
 pub mod Claims
 pub mod Laying
+pub mod Acting

@@ -18,7 +18,7 @@ use Rattle.sheet.specs.declared.held.Entry.{Entry}
 abbrev pub room : ℕ
 room = 20
 
--- what the job of each kind answers on levels, the jobs being those that stand alone
+-- what a command of each kind answers on levels: the job of that name in `charge` or `rewriting`
 abbrev pub jobAnswer : Action → Permutation → List ℕ → Pushes
 jobAnswer (Count k) target L = counted L k
 jobAnswer Rewrite target L = rewritten L target room

@@ -1,4 +1,4 @@
-// Buffers for a whole sheet and a whole text.
+// Buffers for a whole sheet and a whole text, for the programs.
 ghost use mathlib.Core.Path.{_≡_};
 ghost use Prim.Native.Nat.{_+_};
 ghost use lib.ListN.{length};

@@ -5,7 +5,8 @@ ghost use lib.ListN.{length, take};
 ghost use Rattle.sheet.specs.Held.{levelsOf, groupsIn};
 ghost use Rattle.bench_text.specs.Text as meaning;
 ghost use Rattle.bench_text.specs.Work as work;
-ghost use Rattle.bench_text.specs.Laying.{Puts, Group-held, Outcome-held};
+ghost use Rattle.sheet.specs.Standing.{GroupHeld};
+ghost use Rattle.bench_text.specs.Laying.{Puts, OutcomeHeld};
 use super::answers::Outcome;
 use super::text::put_byte;
 use super::text::put_field;
@@ -52,7 +53,7 @@ fn put_levels(text: &mut [u8], at: usize, levels: &[u16]) -> usize
 }
 
 fn put_group(text: &mut [u8], at: usize, g: usize, rank: u64, group: Group) -> usize
-    requires { ⌜ (at + 146 ≤ length (now text)) × (g < 64) × Group-held group × (rank ≡ work.rankOf (levelsOf group)) ⌝ }
+    requires { ⌜ (at + 146 ≤ length (now text)) × (g < 64) × GroupHeld group × (rank ≡ work.rankOf (levelsOf group)) ⌝ }
     ensures { λ r. ⌜ Puts (now (text .entry)) at (now (text .exit)) r (meaning.groupLine g (levelsOf group)) ⌝ }
     ensures { λ r. ⌜ r ≤ at + 146 ⌝ }
 {
@@ -82,7 +83,7 @@ pub fn put_commands(text: &mut [u8], outcome: Outcome) -> usize
 }
 
 pub fn put_groups(text: &mut [u8], from: usize, outcome: Outcome) -> usize
-    requires { ⌜ (from + 146 * outcome .groups .count ≤ length (now text)) × Outcome-held outcome ⌝ }
+    requires { ⌜ (from + 146 * outcome .groups .count ≤ length (now text)) × OutcomeHeld outcome ⌝ }
     ensures { λ r. ⌜ Puts (now (text .entry)) from (now (text .exit)) r (meaning.groupLines 0 (groupsIn (outcome .groups))) ⌝ }
     ensures { λ r. ⌜ r ≤ from + 146 * outcome .groups .count ⌝ }
 {

@@ -13,19 +13,6 @@ pub fn put_byte(text: &mut [u8], at: usize, byte: u8) -> usize
     at + 1
 }
 
-// The first bytes of a row of digits.
-fn put_digits(text: &mut [u8], at: usize, digits: &[u8]) -> usize
-    requires { ⌜ at + length (now digits) ≤ length (now text) ⌝ }
-    ensures { λ r. ⌜ Puts (now (text .entry)) at (now (text .exit)) r (now (digits .entry)) ⌝ }
-{
-    let mut i: usize = 0;
-    while i < digits.len() {
-        text[at + i] = digits[i];
-        i += 1;
-    }
-    at + i
-}
-
 // A space and the number in decimal.
 pub fn put_field(text: &mut [u8], at: usize, x: u64) -> usize
     requires { ⌜ at + length (meaning.field x) ≤ length (now text) ⌝ }
@@ -34,5 +21,6 @@ pub fn put_field(text: &mut [u8], at: usize, x: u64) -> usize
     let from = put_byte(text, at, b' ');
     let mut digits = [0u8; 20];
     let count = io::decimal(x, &mut digits);
-    put_digits(text, from, &digits[..count])
+    bytes::copy(&digits[..count], &mut text[from..]);
+    from + count
 }

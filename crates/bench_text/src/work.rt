@@ -3,11 +3,11 @@ ghost use mathlib.Core.Path.{_≡_};
 ghost use mathlib.Core.List.{map};
 ghost use lib.ListN.{replicate};
 ghost use Rattle.theory.specs.Lists.{padded};
-ghost use Rattle.sheet.specs.Held.{groupOf, noContents, levelsOf, groupsIn, contentsOf};
-ghost use Rattle.sheet.specs.Rows.{Holds};
+ghost use Rattle.sheet.specs.Held.{noContents, levelsOf, groupsIn, contentsOf};
+ghost use Rattle.sheet.specs.Standing.{GroupHeld, GroupsHeld, SheetHeld};
 ghost use Rattle.bench_text.specs.Work as meaning;
 ghost use Rattle.bench_text.specs.Answers.{noAnswer, outcomeOf};
-ghost use Rattle.bench_text.specs.Laying.{Group-held, Sheet-held};
+ghost use Rattle.bench_text.specs.Acting.{acted};
 use super::answers::Outcome;
 use charge::answers::Pushes;
 use charge::count_up::count_up;
@@ -44,8 +44,8 @@ fn act(levels: &mut [u16], action: Action, target: Permutation) -> Pushes
 }
 
 fn act_group(group: Group, action: Action, target: Permutation) -> Acted
-    requires { ⌜ Group-held group ⌝ }
-    ensures { λ r. ⌜ r ≡ record { answer = meaning.jobAnswer action target (levelsOf group); group = groupOf (meaning.jobLevels action target (levelsOf group)) } ⌝ }
+    requires { ⌜ GroupHeld group ⌝ }
+    ensures { λ r. ⌜ r ≡ acted action target (levelsOf group) ⌝ }
 {
     let n = group.n;
     let mut levels = group.levels;
@@ -57,7 +57,7 @@ fn act_group(group: Group, action: Action, target: Permutation) -> Acted
 }
 
 fn rank_of(group: Group) -> u64
-    requires { ⌜ Group-held group ⌝ }
+    requires { ⌜ GroupHeld group ⌝ }
     ensures { λ r. ⌜ r ≡ meaning.rankOf (levelsOf group) ⌝ }
 {
     let n = group.n;
@@ -67,7 +67,7 @@ fn rank_of(group: Group) -> u64
 }
 
 fn ranks_of(groups: Groups) -> [u64; 64]
-    requires { ⌜ Holds groups ⌝ }
+    requires { ⌜ GroupsHeld groups ⌝ }
     ensures { λ r. ⌜ r ≡ padded 64 0 (map meaning.rankOf (groupsIn groups)) ⌝ }
 {
     let count = groups.count;
@@ -93,7 +93,7 @@ fn no_answers() -> [Pushes; 1000]
 
 // The sheet is one that was read without fault.
 pub fn work(sheet: Sheet) -> Outcome
-    requires { ⌜ Sheet-held sheet ⌝ }
+    requires { ⌜ SheetHeld sheet ⌝ }
     ensures { λ r. ⌜ r ≡ outcomeOf (contentsOf sheet) ⌝ }
 {
     let count = sheet.count;

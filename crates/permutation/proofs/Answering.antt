@@ -10,11 +10,12 @@ use Rattle.theory.specs.Reasons.{value}
 use Rattle.theory.specs.Permutation.{IsPermutation}
 use Rattle.theory.specs.Push.{push}
 use Rattle.theory.specs.Successor.{successor}
+use Rattle.theory.specs.Rank.{rank}
 use Rattle.theory.proofs.Cases.{by-name}
 use Rattle.theory.proofs.Padding.{padding}
 use Rattle.theory.proofs.Stepping.{push-permutation}
 use Rattle.permutation.specs.Records.{listOf, recordOf, faultOf}
-use Rattle.permutation.specs.Answers.{given, orElse, permuted, refused, pushNumber, pushed, placed}
+use Rattle.permutation.specs.Answers.{given, orElse, permuted, refused, pushNumber, pushed, placed, ranked}
 use Rattle.permutation.specs.declared.answers.Permutation.{Permutation}
 use Rattle.permutation.specs.declared.answers.Permuted.{Permuted}
 use Rattle.permutation.proofs.Records.{Sound, fault-record}
@@ -26,6 +27,10 @@ given-done number a z e = rw e
 
 pub given-refused : {A : Type 0} (number : ℕ) (a z : A) → (number ≡ 0 → ⊥) → given number a z ≡ z
 given-refused number a z ne = rw (ne-eqb number 0 ne)
+
+-- so what holds of what stood before and, where the job is done, of what it gives, holds of what is left
+pub given-so : {A : Type 0} (P : A → Type 0) (number : ℕ) (a z : A) → P z → (number ≡ 0 → P a) → P (given number a z)
+given-so P number a z was is = by-name number 0 (λ q e. rw e (is q)) (λ ne e. rw e was)
 
 -- a job that was to answer a permutation
 pub permuted-done : (number : ℕ) (xs : List ℕ) (p : Permutation) → number ≡ 0 → p ≡ recordOf xs
@@ -76,6 +81,10 @@ module _ (n : ℕ) (xs : List ℕ) (few : 2 ≤ n) (many : n ≤ 20) (o : IsPerm
   pub placed-record : placed (recordOf xs) ≡ record { number = 0; place = successor n xs }
   unfolding placed
   placed-record = rw (fault-record n xs few many o, list-record, o .long)
+
+  pub ranked-record : ranked (recordOf xs) ≡ record { number = 0; rank = rank n xs }
+  unfolding ranked
+  ranked-record = rw (fault-record n xs few many o, list-record, o .long)
 
   pub pushed-record : (i : ℕ) → 2 ≤ i → i ≤ n → pushed (recordOf xs) i ≡ record { number = 0; permutation = recordOf (push i xs) }
   unfolding pushed pushNumber

@@ -1,6 +1,6 @@
 -- When a record is refused, and what one has that is not: it is the record of a permutation. Assumes nothing.
 use mathlib.Core.Path.{_≡_, refl, ap, sym, _∙_}
-use mathlib.Core.Bool.{Bool, true, false, cond, _&&_, and-false, false≢true}
+use mathlib.Core.Bool.{Bool, true, false, cond, _&&_, and-false, and-eq-true-iff}
 use mathlib.Core.List.{List, [], _∷_, _++_}
 use Prim.Native.Nat.{ℕ, zero, suc, _-_, _≤_, _<_}
 use native.Mathlib.Omega.{arith}
@@ -16,17 +16,12 @@ use Rattle.permutation.specs.Records.{listOf, recordOf, onceEach, allZer
 use Rattle.permutation.specs.Spots.{Checks}
 use Rattle.permutation.specs.declared.answers.Permutation.{Permutation}
 
--- both of two tests
-pub both : (a b : Bool) → (a && b) ≡ true → (a ≡ true) × (b ≡ true)
-both true b h = (refl, h)
-both false b h = absurd (false≢true h)
-
 -- ---- each of 1 to n once
 pub once-count : (n : ℕ) (xs : List ℕ) → onceEach n xs ≡ true → (c : ℕ) → 1 ≤ c → c ≤ n → count c xs ≡ 1
 unfolding onceEach
 once-count zero xs h c low high = absurd (omega arith)
 once-count (suc m) xs h c low high =
-    let b = both (eqb (count (suc m) xs) 1) (onceEach m xs) h in
+    let b = and-eq-true-iff (eqb (count (suc m) xs) 1) (onceEach m xs) .0 h in
     by-name c (suc m)
     (λ q e. ap (λ (k : ℕ). count k xs) q ∙ eqb-true (count (suc m) xs) 1 (b .0))
     (λ ne e. once-count m xs (b .1) c low (omega (arith, ne)))
@@ -53,7 +48,7 @@ all-zeros : (xs : List ℕ) → allZero xs ≡ true → xs ≡ replicate (length
 unfolding allZero
 all-zeros [] h = refl
 all-zeros (x ∷ xs) h =
-    let b = both (eqb x 0) (allZero xs) h in
+    let b = and-eq-true-iff (eqb x 0) (allZero xs) .0 h in
     let first : x ≡ 0 = eqb-true x 0 (b .0) in
     let rest : xs ≡ replicate (length xs) 0 = all-zeros xs (b .1) in
     cc
@@ -99,8 +94,8 @@ sound p long h =
     let n : ℕ = p .n in
     let rest : List ℕ = drop n (p .cells) in
     let f = no-fault (sized n) (onceEach n (listOf p) && allZero rest) h in
-    let s = both (leb 2 n) (leb n 20) (f .0) in
-    let g = both (onceEach n (listOf p)) (allZero rest) (f .1) in
+    let s = and-eq-true-iff (leb 2 n) (leb n 20) .0 (f .0) in
+    let g = and-eq-true-iff (onceEach n (listOf p)) (allZero rest) .0 (f .1) in
     let high : n ≤ 20 = leb-true n 20 (s .1) in
     let names : length (listOf p) ≡ n = length-take-le n (p .cells) (omega arith) in
     let left : length rest ≡ 20 - length (listOf p) = omega (arith, length-drop n (p .cells)) in

@@ -8,6 +8,7 @@ pub fn wide(x: u8) -> usize
     x as usize
 }
 
+// A digit of a rank, or of a number in bytes. For other crates too.
 pub fn wide_digit(x: u8) -> u64
     ensures { λ r. ⌜ r ≡ x ⌝ }
 {

@@ -4,6 +4,7 @@ pub mod Raising
 pub mod Judging
 pub mod Sequence
 pub mod Listing
+pub mod Targets
 pub mod Rewriting
 pub mod Lengths
 pub mod Writing

@@ -21,8 +21,8 @@ use Rattle.theory.proofs.Rewriting.{rewriting}
 use Rattle.permutation.specs.Records.{listOf, recordOf, faultOf}
 use Rattle.permutation.specs.Answers.{given}
 use Rattle.permutation.specs.declared.answers.Permutation.{Permutation}
-use Rattle.permutation.proofs.Records.{Sound, sound}
-use Rattle.permutation.proofs.Answering.{given-done, given-refused, permuted-done, orElse-refused, orElse-done}
+use Rattle.permutation.proofs.Records.{sound}
+use Rattle.permutation.proofs.Answering.{given-done, given-refused, given-so, permuted-done, orElse-refused, orElse-done}
 use Rattle.charge.specs.Answers.{pushesOf, readNumber, reading}
 use Rattle.charge.specs.declared.answers.Pushes.{Pushes}
 use Rattle.charge.proofs.Numbers.{Readable, readable, read-done}
@@ -30,6 +30,7 @@ use Rattle.charge.proofs.Sorting.{row-first}
 use Rattle.rewriting.specs.Answers.{sizeOf, fitOf, pushesTo, rewriteFault, rewriteReason, rewritten, rewriteLevels, rewriteList, RewriteOf}
 use Rattle.rewriting.specs.Raising.{Pushable, raised}
 use Rattle.rewriting.proofs.Standing.{row-readable}
+use Rattle.rewriting.proofs.Targets.{target-permutation}
 
 -- ---- where the judge does not refuse
 
@@ -37,8 +38,7 @@ use Rattle.rewriting.proofs.Standing.{row-readable}
 pub record Judged (L : List ℕ) (target : Permutation) (room : ℕ) : Type 0 where
   pub none : rewriteFault L target room ≡ 0
   pub readable : Readable L
-  pub long : length (target .cells) ≡ 20
-  pub sound : Sound target
+  pub fault : faultOf target ≡ 0
   pub same : target .n ≡ length L
   pub enough : length L - 1 ≤ room
 
@@ -47,9 +47,9 @@ fits true true h = (refl, refl)
 fits true false h = absurd (omega arith)
 fits false b h = absurd (omega arith)
 
-pub judged : {L : List ℕ} {target : Permutation} {room : ℕ} → length (target .cells) ≡ 20 → rewriteFault L target room ≡ 0 → Judged L target room
+pub judged : {L : List ℕ} {target : Permutation} {room : ℕ} → rewriteFault L target room ≡ 0 → Judged L target room
 unfolding rewriteFault
-judged {L} {target} {room} long h =
+judged {L} {target} {room} h =
     let past-target = orElse-done (sizeOf (target .n)) _ (orElse-done (sizeOf (length L)) _ h .1) .1 in
     let past-fit = orElse-done (fitOf L target room) _ past-target in
     let last = orElse-done (faultOf target) (readNumber L) (past-fit .1) in
@@ -57,19 +57,18 @@ judged {L} {target} {room} long h =
     record {
       none = h;
       readable = readable (last .1);
-      long = long;
-      sound = sound target long (last .0);
+      fault = last .0;
       same = eqb-true (target .n) (length L) (f .0);
       enough = leb-true (length L - 1) room (f .1);
     }
 
 module _ {L : List ℕ} {target : Permutation} {room : ℕ} (j : Judged L target room) where
-  target-permutation : IsPermutation (length L) (listOf target)
-  target-permutation = subst (λ (n : ℕ). IsPermutation n (listOf target)) (j .same) (j .sound .permutation)
+  target-is : IsPermutation (length L) (listOf target)
+  target-is = subst (λ (n : ℕ). IsPermutation n (listOf target)) (j .same) (target-permutation target (j .fault))
 
   rewrites : Rewriting (length L) (permutationOf L) (listOf target)
   rewrites =
-      rewriting (length L) (permutationOf L) (listOf target) (omega (arith, j .readable .few)) (permutationOf-permutation L) target-permutation
+      rewriting (length L) (permutationOf L) (listOf target) (omega (arith, j .readable .few)) (permutationOf-permutation L) target-is
 
   -- r is found on the sorted row
   pub sorted-number : {cells : List ℕ} {r : ℕ} → cells ≡ row (permutationOf L) → r ≡ rewriteNumber (take (target .n) cells) (listOf target)
@@ -86,29 +85,36 @@ module _ {L : List ℕ} {target : Permutation} {room : ℕ} (j : Judged L target
         ap reverse (sym (take-take r (target .n) (target .cells) (omega (arith, number-below, j .same))))
         ∙ ap (λ (k : ℕ). reverse (take k (listOf target))) is
 
-    pub pushable : Pushable (length L) (target .cells) r
-    pushable = record {
-      long = j .long;
+    pub pushable : length (target .cells) ≡ 20 → Pushable (length L) (target .cells) r
+    pushable long = record {
+      long = long;
       few = omega (arith, number-below, j .readable .many);
       named = λ i h.
-          let b = entry-inside target-permutation i (omega (arith, number-below, target-permutation .long)) in
+          let b = entry-inside target-is i (omega (arith, number-below, target-is .long)) in
           rw (getD-take (target .n) (target .cells) i 0 (omega (arith, number-below, j .same))) at b;
     }
 
   -- the levels that the pushes leave are read as the target
-  rewrite-read : {L′ : List ℕ} {r : ℕ} → L′ ≡ pushLevels (rewritePushes (permutationOf L) (listOf target)) L
+  rewrite-read : {L′ : List ℕ} {r : ℕ} → length (target .cells) ≡ 20 → L′ ≡ pushLevels (rewritePushes (permutationOf L) (listOf target)) L
       → r ≡ pushesTo L target → RewriteOf L target L′ r
   unfolding reading
-  rewrite-read {L′} {r} e is =
+  rewrite-read {L′} {r} long e is =
       let cs : List ℕ = rewritePushes (permutationOf L) (listOf target) in
       let left : permutationOf L′ ≡ listOf target =
       rw e (theory.reading L (j .readable .untied) .row-read cs (rewrites .cells) ∙ rewrites .reaches) in
       record {
         read =
             sym (permuted-done (readNumber L′) (permutationOf L′) target (read-done (rw e (row-readable cs (rewrites .cells) (j .readable))))
-            (j .sound .is ∙ ap recordOf (sym left)));
+            (sound target long (j .fault) .is ∙ ap recordOf (sym left)));
         fewest = rw is (rewrites .fewest);
       }
+
+-- whatever is asked, levels with a permutation keep one
+pub rewrite-readable : {L : List ℕ} → Readable L → (target : Permutation) (room : ℕ) → Readable (rewriteLevels L target room)
+unfolding rewriteLevels rewriteReason
+rewrite-readable {L} r target room =
+    given-so Readable (rewriteReason L target room) _ L r
+    (λ z. row-readable (rewritePushes (permutationOf L) (listOf target)) (rewrites (judged (orElse-done (rewriteFault L target room) _ z .0)) .cells) r)
 
 -- ---- the answer
 
@@ -144,25 +150,26 @@ module _ (L : List ℕ) (target : Permutation) (list : List ℕ) where
       names : List ℕ
       names = reverse (take r (target .cells)) ++ drop r list
 
-      answered : {list′ : List ℕ} → list′ ≡ given (ceilingOf L r) names list → Answered L target list a L′ list′
-      unfolding rewritten rewriteLevels rewriteList raised names
-      answered list-is =
-          let left : L′ ≡ given (ceilingOf L r) (pushLevels (rewritePushes (permutationOf L) (listOf target)) L) L = k .1 ∙ rw (pushes-are j is) in (
-            k .0 ∙ rw (reason-is, is),
-            (
-              left ∙ rw reason-is,
+      module _ (long : length (target .cells) ≡ 20) where
+        answered : {list′ : List ℕ} → list′ ≡ given (ceilingOf L r) names list → Answered L target list a L′ list′
+        unfolding rewritten rewriteLevels rewriteList raised names
+        answered list-is =
+            let left : L′ ≡ given (ceilingOf L r) (pushLevels (rewritePushes (permutationOf L) (listOf target)) L) L = k .1 ∙ rw (pushes-are j is) in (
+              k .0 ∙ rw (reason-is, is),
               (
-                list-is ∙ rw (reason-is, pushes-are j is, is),
-                λ z.
-                    let done : L′ ≡ _ = left ∙ given-done (ceilingOf L r) _ L (sym number-is ∙ z) in
-                    rewrite-read j done (ap (λ (b : Pushes). b .pushes) (k .0) ∙ given-done (ceilingOf L r) r 0 (sym number-is ∙ z) ∙ is),
+                left ∙ rw reason-is,
+                (
+                  list-is ∙ rw (reason-is, pushes-are j is, is),
+                  λ z.
+                      let done : L′ ≡ _ = left ∙ given-done (ceilingOf L r) _ L (sym number-is ∙ z) in
+                      rewrite-read j long done (ap (λ (b : Pushes). b .pushes) (k .0) ∙ given-done (ceilingOf L r) r 0 (sym number-is ∙ z) ∙ is),
+                ),
               ),
-            ),
-          )
+            )
 
-      pub rewrite-done : {list′ : List ℕ} → a .number ≡ 0 → list′ ≡ reverse (take r (target .cells)) ++ drop r list → Answered L target list a L′ list′
-      unfolding names
-      rewrite-done z list-is = answered (list-is ∙ sym (given-done (ceilingOf L r) _ list (sym number-is ∙ z)))
+        pub rewrite-done : {list′ : List ℕ} → a .number ≡ 0 → list′ ≡ reverse (take r (target .cells)) ++ drop r list → Answered L target list a L′ list′
+        unfolding names
+        rewrite-done z list-is = answered (list-is ∙ sym (given-done (ceilingOf L r) _ list (sym number-is ∙ z)))
 
-      pub rewrite-ceiling : (a .number ≡ 0 → ⊥) → Answered L target list a L′ list
-      rewrite-ceiling ne = answered (sym (given-refused (ceilingOf L r) _ list (λ z. ne (number-is ∙ z))))
+        pub rewrite-ceiling : (a .number ≡ 0 → ⊥) → Answered L target list a L′ list
+        rewrite-ceiling ne = answered (sym (given-refused (ceilingOf L r) _ list (λ z. ne (number-is ∙ z))))

@@ -21,7 +21,7 @@ use Rattle.theory.proofs.Storing.{symbol-prefix, storing}
 use Rattle.permutation.specs.Answers.{given}
 use Rattle.permutation.specs.declared.answers.Permutation.{Permutation}
 use Rattle.permutation.specs.declared.answers.Permuted.{Permuted}
-use Rattle.permutation.proofs.Answering.{given-done, orElse-refused}
+use Rattle.permutation.proofs.Answering.{given-done, given-so, orElse-refused, orElse-done}
 use Rattle.charge.specs.Answers as charge
 use Rattle.charge.specs.Answers.{pushesOf, readNumber}
 use Rattle.charge.specs.declared.answers.Pushes.{Pushes}
@@ -70,6 +70,16 @@ store-read {L} {m} {s} v =
       read = rw (read-done r, left, stores v .reaches);
       read-back = rw (read-done r, left, row-length cs L, stores v .read, coded-right (v .code), lt-ltb s m (v .code .below));
     }
+
+-- whatever is asked, levels with a permutation keep one
+pub store-readable : {L : List ℕ} → Readable L → (m s : ℕ) → Readable (storeLevels L m s)
+unfolding storeLevels storeReason
+store-readable {L} r m s =
+    given-so Readable (storeReason L m s) _ L r
+    (λ z.
+    let finds = orElse-done (prefixReason (length L) m s) _ (orElse-done (readNumber L) _ z .1) .0 in
+    let v : Storable L m s = record { levels = r; code = in-range (r .few) (r .many) finds } in
+    row-readable (storePushes (prefixOn L m s) (permutationOf L)) (stores v .cells) r)
 
 -- ---- refusals
 

@@ -4,9 +4,9 @@ use Rattle.sheet.specs.Bytes.{after, check, many, little, number}
 use Rattle.sheet.specs.Sheet.{group, countAt, rewriteAt, storeAt, bodyAt, command, commandRow, commands, sheet}
 use Rattle.sheet.specs.Claims.{Sheets}
 use Rattle.sheet.proofs.Valid.{valid}
-use Rattle.sheet.proofs.Holding.{held}
+use Rattle.sheet.proofs.Rows.{contents-back}
 use Rattle.sheet.proofs.Longest.{longest, decided}
 
 pub sheets : Sheets
 unfolding sheet after number check little many group commands commandRow command bodyAt countAt rewriteAt storeAt
-sheets = record { valid = λ s c end e. valid s c end e .0; held = held; longest = longest; decided = decided; example = refl }
+sheets = record { valid = λ s c end e. valid s c end e .0; held = contents-back; longest = longest; decided = decided; example = refl }

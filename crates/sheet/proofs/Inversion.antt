@@ -30,7 +30,7 @@ nth P d x l px pl (suc i) h = pl i (omega arith)
 
 module _ {A : Type 0} (p : ℕ → Got A) where
   -- a first value, and the others
-  pub many-split : (n at : ℕ) (xs : List A) (end : ℕ) → many (suc n) p at ≡ got xs end
+  many-split : (n at : ℕ) (xs : List A) (end : ℕ) → many (suc n) p at ≡ got xs end
       → (x : A) × (next : ℕ) × (ys : List A) × (p at ≡ got x next) × (many n p next ≡ got ys end) × (xs ≡ x ∷ ys)
   unfolding many
   many-split n at xs end e =

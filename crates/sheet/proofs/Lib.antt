@@ -2,7 +2,7 @@
 pub mod Inversion
 pub mod Valid
 pub mod Rows
-pub mod Holding
+pub mod Filling
 pub mod Longest
 pub mod Claims
 pub mod Spelled

@@ -1,19 +1,19 @@
 -- How far a reader reads at most, and that only the bytes so far count: the longest sheet, and that its bytes and one more decide. Assumes nothing.
 use mathlib.Core.Path.{_≡_, refl, ap}
-use mathlib.Core.Bool.{Bool, true, false, cond, not, _&&_}
+use mathlib.Core.Bool.{Bool, true, false, cond, not, _&&_, and-eq-true-iff}
 use mathlib.Core.List.{List, [], _∷_, map}
 use Prim.Native.Nat.{ℕ, zero, suc, _+_, _*_, _≤_, _<_}
 use native.Mathlib.Omega.{arith}
 use borrow.Author.Tests.{leb-true, le-leb, ne-eqb}
 use lib.Dec.{leb, ltb, eqb}
-use lib.ListN.{length, getD, take, drop, List·getD-map}
+use lib.ListN.{length, getD, take, drop}
 use lib.Seq.{length-take-le, take-all, take-take}
 use Rattle.theory.specs.Reasons.{sized}
 use Rattle.theory.specs.Levels.{tied}
 use Rattle.theory.proofs.Cases.{by-le}
-use Rattle.permutation.proofs.Records.{both}
 use Rattle.sheet.specs.Bytes.{Fault, missized, tied as fault-tied, ill-formed, Got, fault, got, after, check, many, number}
 use Rattle.sheet.specs.Sheet.{group, countAt, rewriteAt, storeAt, bodyAt, command, Contents, commandRow, commands, sheet}
+use Rattle.sheet.specs.Claims.{longestSheet}
 use Rattle.sheet.specs.Rows.{Small}
 use Rattle.sheet.proofs.Inversion.{never, after-got, check-got}
 use Rattle.sheet.proofs.Valid.{groups-readable, valid, small}
@@ -107,7 +107,7 @@ unfolding group
 local-group =
     local-after {v = 40} (local-number 1)
     (λ s at n next e. local-check (sized n) missized (λ ok.
-    wider {w = n * 2 + 0} (omega (arith, leb-true n 20 (both (leb 2 n) (leb n 20) ok .1)))
+    wider {w = n * 2 + 0} (omega (arith, leb-true n 20 (and-eq-true-iff (leb 2 n) (leb n 20) .0 ok .1)))
     (local-after (local-many n (local-number 2))
     (λ s at L end e. local-check (not (tied L)) fault-tied (λ ok. local-got L)))))
 
@@ -134,14 +134,13 @@ local-command sizes h =
 
 -- ---- the commands: 2 bytes and at most 1,000 times 22
 
-local-commands : (groups : List (List ℕ)) → ((g : ℕ) → length (getD groups g []) ≤ 20) → Local (commands groups) 22002
+local-commands : (groups : List (List ℕ)) → Small (map length groups) → Local (commands groups) 22002
 unfolding commands commandRow
 local-commands groups h =
-    let sizes : Small (map length groups) = λ g. rw (List·getD-map length groups g []) (h g) in
     local-after {v = 22000} (local-number 2) (λ s at count next e.
     local-check (leb count 1000) ill-formed (λ ok.
     wider {w = count * 22 + 0} (omega (arith, leb-true count 1000 ok))
-    (local-after (local-many count (local-command (map length groups) sizes)) (λ s at entries end e. local-end _))))
+    (local-after (local-many count (local-command (map length groups) h)) (λ s at entries end e. local-end _))))
 
 -- ---- the sheet: 1 byte and at most 64 times 41, and then its commands; it is read from place 0
 
@@ -151,20 +150,20 @@ at-start l = record {
   same = λ N s at long inside. l .same N s 0 long (omega arith);
 }
 
-local-sheet : Local (λ s at. sheet s) 24627
+local-sheet : Local (λ s at. sheet s) longestSheet
 unfolding sheet
 local-sheet =
     local-after {v = 24626} (at-start (local-number 1)) (λ s at count next e.
     local-check (leb 1 count && leb count 64) ill-formed (λ ok.
-    wider {w = count * 41 + 22002} (omega (arith, leb-true count 64 (both (leb 1 count) (leb count 64) ok .1)))
+    wider {w = count * 41 + 22002} (omega (arith, leb-true count 64 (and-eq-true-iff (leb 1 count) (leb count 64) .0 ok .1)))
     (local-after (local-many count local-group) (λ s at groups end e.
     local-commands groups (small groups (groups-readable s count at groups end e))))))
 
-pub longest : (s : List ℕ) (c : Contents) (end : ℕ) → sheet s ≡ got c end → length s ≤ 24627
+pub longest : (s : List ℕ) (c : Contents) (end : ℕ) → sheet s ≡ got c end → length s ≤ longestSheet
 longest s c end r = omega (arith, local-sheet .near s 0 c end r, valid s c end r .1)
 
-pub decided : (s : List ℕ) → sheet (take 24628 s) ≡ sheet s
+pub decided : (s : List ℕ) → sheet (take (longestSheet + 1) s) ≡ sheet s
 decided s =
-    by-le 24628 (length s)
-    (λ long. local-sheet .same 24628 s 0 long (omega arith))
-    (λ h. ap sheet (take-all 24628 s (omega arith)))
+    by-le (longestSheet + 1) (length s)
+    (λ long. local-sheet .same (longestSheet + 1) s 0 long (omega arith))
+    (λ h. ap sheet (take-all (longestSheet + 1) s (omega arith)))

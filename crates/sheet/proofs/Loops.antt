@@ -5,16 +5,16 @@ use Prim.Native.Nat.{ℕ, suc, _+_, _-_, _≤_, _<_}
 use native.Mathlib.Nat.{sub-zero, sub-self}
 use native.Mathlib.Omega.{arith}
 use lib.ListN.{length, set, replicate, length-append, length-map}
-use Rattle.sheet.specs.Bytes.{Fault, Got, fault, got, after, many}
 use Rattle.theory.specs.Lists.{padded}
-use Rattle.sheet.proofs.Rows.{padded-none, padded-snoc}
+use Rattle.theory.proofs.Padding.{padded-none, padded-snoc}
+use Rattle.sheet.specs.Bytes.{Fault, Got, fault, got, after, many}
 
 -- what was read before, in front of what is read
 unfoldable pub behind : {A : Type 0} → List A → Got (List A) → Got (List A)
 behind xs (fault f) = fault f
 behind xs (got ys end) = got (xs ++ ys) end
 
-module _ {A : Type 0} (p : ℕ → Got A) where
+module _ {A : Type 0} where
   behind-none : (o : Got (List A)) → o ≡ behind [] o
   unfolding behind
   behind-none (fault f) = refl
@@ -25,6 +25,7 @@ module _ {A : Type 0} (p : ℕ → Got A) where
   behind-one xs x (fault f) = refl
   behind-one xs x (got ys end) = rw append-assoc
 
+module _ {A : Type 0} (p : ℕ → Got A) where
   many-more : (n at : ℕ) (xs : List A) (x : A) (next : ℕ) → p at ≡ got x next
       → behind xs (many (suc n) p at) ≡ behind (xs ++ x ∷ []) (many n p next)
   unfolding many after
@@ -50,7 +51,7 @@ module _ {A B : Type 0} (hold : A → B) (room : ℕ) (z : B) (p : ℕ → Got A
         read = [];
         long = refl;
         front = sym (padded-none room z);
-        whole = rw sub-zero (behind-none p (many count p from));
+        whole = rw sub-zero (behind-none (many count p from));
       }
 
 module _ {A B : Type 0} {hold : A → B} {room : ℕ} {z : B} {p : ℕ → Got A} {count from : ℕ} {row : List B} {at i : ℕ}

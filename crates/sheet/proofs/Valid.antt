@@ -1,23 +1,23 @@
 -- What is known of a sheet that was read without fault. Assumes nothing.
 use mathlib.Core.Path.{_≡_, refl, sym, _∙_}
-use mathlib.Core.Bool.{not, _&&_}
+use mathlib.Core.Bool.{not, _&&_, and-eq-true-iff}
 use mathlib.Core.List.{List, [], map}
 use Prim.Native.Nat.{ℕ, _≤_, _<_}
 use native.Mathlib.Omega.{arith}
 use borrow.Author.Tests.{leb-true, ltb-true, eqb-true, not-true}
 use lib.Dec.{leb, ltb, eqb}
-use lib.ListN.{length, getD, length-map, List·getD-eq-default}
+use lib.ListN.{length, getD, length-map, List·getD-eq-default, List·getD-map}
 use Rattle.theory.specs.Reasons.{sized}
 use Rattle.theory.specs.Levels.{tied}
 use Rattle.theory.proofs.Cases.{by-test, by-le}
-use Rattle.permutation.proofs.Records.{both}
 use Rattle.charge.specs.Answers.{readNumber}
 use Rattle.charge.proofs.Numbers.{readable}
 use Rattle.sheet.specs.declared.held.Entry.{Entry}
 use Rattle.sheet.specs.Bytes.{got, many, number}
 use Rattle.sheet.specs.Sheet.{group, countAt, rewriteAt, storeAt, bodyAt, command, Contents, commandRow, commands, sheet}
 use Rattle.sheet.specs.Held.{noEntry}
-use Rattle.sheet.specs.Claims.{Valid}
+use Rattle.sheet.specs.Claims.{Each, Valid}
+use Rattle.sheet.specs.Rows.{Small}
 use Rattle.sheet.proofs.Inversion.{never, after-got, check-got, many-length, many-each}
 
 -- ---- a group, and the groups
@@ -36,7 +36,7 @@ module _ (s : List ℕ) where
       rw (rw long at (judged .0), not-true (tied L) (rw is at (untied .0)))
 
   pub groups-readable : (n at : ℕ) (groups : List (List ℕ)) (end : ℕ) → many n (group s) at ≡ got groups end
-      → (g : ℕ) → g < length groups → readNumber (getD groups g []) ≡ 0
+      → Each groups
   groups-readable = many-each (group s) (λ L. readNumber L ≡ 0) group-readable []
 
 -- ---- a command
@@ -114,7 +114,7 @@ valid s c end r =
     let one = after-got (number 1 s 0) _ r in
     let few = check-got (leb 1 (one .0) && leb (one .0) 64) _ _ (one .3) in
     let row = after-got (many (one .0) (group s) (one .1)) _ (few .1) in
-    let range = both (leb 1 (one .0)) (leb (one .0) 64) (few .0) in
+    let range = and-eq-true-iff (leb 1 (one .0)) (leb (one .0) 64) .0 (few .0) in
     let long = many-length (group s) (one .0) (one .1) (row .0) (row .1) (row .2) in
     let more = rest (row .0) s (row .1) c end (row .3) in (
       record {
@@ -128,9 +128,9 @@ valid s c end r =
     )
 
 -- no group of a sheet has more than twenty cells, nor has what stands past them
-pub small : (groups : List (List ℕ)) → ((g : ℕ) → g < length groups → readNumber (getD groups g []) ≡ 0)
-    → (g : ℕ) → length (getD groups g []) ≤ 20
+pub small : (groups : List (List ℕ)) → Each groups → Small (map length groups)
 small groups all g =
-    by-le (length groups) g
+    rw (List·getD-map length groups g [])
+    (by-le (length groups) g
     (λ h. rw (List·getD-eq-default groups [] h) (omega arith))
-    (λ h. readable (all g h) .many)
+    (λ h. readable (all g h) .many))

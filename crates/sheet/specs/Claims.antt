@@ -9,11 +9,15 @@ use Rattle.sheet.specs.Sheet.{Contents, entry, sheet}
 use Rattle.sheet.specs.Held.{noEntry, heldOf, contentsOf}
 use Rattle.sheet.specs.declared.held.Action.the-variants.{Count, Rewrite, Store}
 
+-- every group has a permutation
+abbrev pub Each : List (List ℕ) → Type 0
+Each groups = (g : ℕ) → g < length groups → readNumber (getD groups g []) ≡ 0
+
 -- what is known of a sheet without fault: counts, groups and group numbers are in their ranges, and every group has a permutation
 pub record Valid (c : Contents) : Type 0 where
   pub some : 1 ≤ length (c .groups)
   pub few : length (c .groups) ≤ 64
-  pub readable : (g : ℕ) → g < length (c .groups) → readNumber (getD (c .groups) g []) ≡ 0
+  pub readable : Each (c .groups)
   pub short : length (c .entries) ≤ 1000
   pub named : (i : ℕ) → i < length (c .entries) → getD (c .entries) i noEntry .command .group < length (c .groups)
 

@@ -27,7 +27,7 @@ groupsOf groups = record { count = length groups; list = padded 64 noGroup (map 
 abbrev pub noEntry : Entry
 noEntry = entry 0 (Count 0) []
 
--- what a refused sheet says
+-- nothing: what a refused sheet is answered with
 abbrev pub noContents : Contents
 noContents = record { groups = []; entries = [] }
 
@@ -35,7 +35,7 @@ noContents = record { groups = []; entries = [] }
 unfoldable pub heldOf : Contents → Sheet
 heldOf c = record { groups = groupsOf (c .groups); count = length (c .entries); entries = padded 1000 noEntry (c .entries) }
 
--- what `read_sheet` answers: number 0 and the sheet, or the fault's number and a sheet of zeros
+-- what `read_sheet` answers: number 0 and the sheet, or the fault's number and zeros, "0 for every other number"
 unfoldable pub sheetRead : Got Contents → SheetRead
 sheetRead (fault f) = record { number = numberOf f; sheet = heldOf noContents }
 sheetRead (got c end) = record { number = 0; sheet = heldOf c }

@@ -4,3 +4,4 @@ pub mod Sheet
 pub mod Held
 pub mod Claims
 pub mod Rows
+pub mod Standing

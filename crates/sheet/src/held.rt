@@ -51,6 +51,7 @@ pub fn no_group() -> Group
     Group { n: 0, levels }
 }
 
+// For other crates too.
 pub fn no_groups() -> [Group; 64]
     ensures { λ r. ⌜ r ≡ replicate 64 noGroup ⌝ }
 {

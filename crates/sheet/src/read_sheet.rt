@@ -3,10 +3,10 @@ ghost use mathlib.Core.Path.{_≡_};
 ghost use mathlib.Core.List.{map};
 ghost use Prim.Native.Nat.{_≤_};
 ghost use lib.ListN.{length};
+ghost use Rattle.theory.specs.Lists.{padded};
 ghost use Rattle.sheet.specs.Sheet as meaning;
 ghost use Rattle.sheet.specs.Held.{noContents, heldOf, sheetRead, groupsIn};
-ghost use Rattle.sheet.specs.Rows.{Holds};
-ghost use Rattle.sheet.specs.declared.held.Group.{Group as HeldGroup};
+ghost use Rattle.sheet.specs.Standing.{GroupsHeld};
 use super::commands::read_command;
 use super::groups::read_group;
 use super::held::Groups;
@@ -35,22 +35,23 @@ fn refuse(number: u8) -> SheetRead
 
 // The number of cells of each group.
 fn sizes_of(groups: Groups) -> [usize; 64]
-    requires { ⌜ length (groups .list) ≡ 64 ⌝ }
-    ensures { λ r. ⌜ r ≡ map (λ (g : HeldGroup). g .n) (groups .list) ⌝ }
+    requires { ⌜ GroupsHeld groups ⌝ }
+    ensures { λ r. ⌜ r ≡ padded 64 0 (map length (groupsIn groups)) ⌝ }
 {
+    let count = groups.count;
     let mut sizes = [0usize; 64];
-    let mut i: usize = 0;
-    while i < 64 {
-        let group = groups.list[i];
-        sizes[i] = group.n;
-        i += 1;
+    let mut g: usize = 0;
+    while g < count {
+        let group = groups.list[g];
+        sizes[g] = group.n;
+        g += 1;
     }
     sizes
 }
 
 // The commands in a row, to the sheet's end.
 fn read_entries(s: &[u8], from: usize, count: usize, groups: Groups) -> SheetRead
-    requires { ⌜ (count ≤ 1000) × Holds groups ⌝ }
+    requires { ⌜ (count ≤ 1000) × GroupsHeld groups ⌝ }
     ensures { λ r. ⌜ r ≡ sheetRead (meaning.commandRow (groupsIn groups) count (now (s .entry)) from) ⌝ }
 {
     let sizes = sizes_of(groups);
@@ -83,7 +84,7 @@ fn read_entries(s: &[u8], from: usize, count: usize, groups: Groups) -> SheetRea
 
 // The commands after the groups.
 fn read_commands(s: &[u8], at: usize, groups: Groups) -> SheetRead
-    requires { ⌜ Holds groups ⌝ }
+    requires { ⌜ GroupsHeld groups ⌝ }
     ensures { λ r. ⌜ r ≡ sheetRead (meaning.commands (groupsIn groups) (now (s .entry)) at) ⌝ }
 {
     if s.len() <= at {
@@ -99,13 +100,13 @@ fn read_commands(s: &[u8], at: usize, groups: Groups) -> SheetRead
     read_entries(s, at + 2, count, groups)
 }
 
-pub fn read_sheet(s: &[u8]) -> SheetRead
-    ensures { λ r. ⌜ r ≡ sheetRead (meaning.sheet (now (s .entry))) ⌝ }
+pub fn read_sheet(bytes: &[u8]) -> SheetRead
+    ensures { λ r. ⌜ r ≡ sheetRead (meaning.sheet (now (bytes .entry))) ⌝ }
 {
-    if s.len() == 0 {
+    if bytes.len() == 0 {
         return refuse(SHEET);
     }
-    let count = wide(s[0]);
+    let count = wide(bytes[0]);
     if count < 1 {
         return refuse(SHEET);
     }
@@ -116,7 +117,7 @@ pub fn read_sheet(s: &[u8]) -> SheetRead
     let mut at: usize = 1;
     let mut i: usize = 0;
     while i < count {
-        let found = read_group(s, at);
+        let found = read_group(bytes, at);
         if found.number != 0 {
             return refuse(found.number);
         }
@@ -125,5 +126,5 @@ pub fn read_sheet(s: &[u8]) -> SheetRead
         at = found.next;
         i += 1;
     }
-    read_commands(s, at, Groups { count, list })
+    read_commands(bytes, at, Groups { count, list })
 }

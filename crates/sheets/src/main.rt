@@ -1,4 +1,5 @@
-// Sheets from data/, as the arguments name them, and the text of each after its name.
+// Sheets from data/, as the arguments name them, and the text of each after its name. A file that cannot be opened ends the run; one that cannot be read shows as an early end.
+
 // Prints the sheet that argument i names. There is none past the last argument.
 fn print_sheet(i: usize) -> bool {
     let mut path = io::buffer();
@@ -22,6 +23,7 @@ fn print_sheet(i: usize) -> bool {
     io::write_all(libc::STDOUT_FILENO, &text[..length])
 }
 
+// At most 999 arguments are asked for, so that it ends.
 fn main() {
     let mut i: usize = 1;
     while i < 1000 && print_sheet(i) {

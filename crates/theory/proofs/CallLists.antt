@@ -41,7 +41,7 @@ unfolding countUp
 count-length zero L = refl
 count-length (suc k) L = count-length k (pushLevel (nextCell L) L) ∙ pushed-length (nextCell L) L
 
-call-length : (k : ℕ) (L : List ℕ) → length (callLevels k L) ≡ length L
+pub call-length : (k : ℕ) (L : List ℕ) → length (callLevels k L) ≡ length L
 call-length k L = by-name (callNumber k L) 0
     (λ e t. ap length (calling k L .counted e .1) ∙ count-length k L)
     (λ ne t. ap length (calling k L .unchanged ne .1))

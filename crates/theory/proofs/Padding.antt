@@ -1,12 +1,53 @@
--- A row of twenty: its entries, and zeros past them. Assumes nothing.
-use mathlib.Core.Path.{_≡_, refl, _∙_}
-use mathlib.Core.List.{List, [], _∷_, _++_}
+-- A list in a row of places, with z past it; a row of twenty, with zeros. Assumes nothing.
+use mathlib.Core.Path.{_≡_, refl, ap, _∙_}
+use mathlib.Core.List.{List, [], _∷_, _++_, map, append-assoc}
 use Prim.Native.Nat.{ℕ, zero, suc, _-_, _≤_, _<_}
+use native.Mathlib.Nat.{sub-zero}
 use native.Mathlib.Omega.{arith}
-use lib.ListN.{length, getD, replicate, length-append, length-replicate, List·getD-append}
-use lib.Seq.{take-append-seam}
+use lib.ListN.{length, getD, set, replicate, length-append, length-replicate, length-map, List·getD-append, List·getD-map}
+use lib.Seq.{set-at, take-append-seam}
+use Rattle.theory.specs.Lists.{padded}
 use Rattle.theory.specs.Permutation.{row}
 use Rattle.theory.specs.Claims.{Padding}
+
+-- ---- lists
+
+-- inside a list, what stands past its end does not matter
+pub getD-any : {A : Type 0} (l : List A) (i : ℕ) (d e : A) → i < length l → getD l i d ≡ getD l i e
+getD-any [] i d e h = absurd (omega arith)
+getD-any (x ∷ l) zero d e h = refl
+getD-any (x ∷ l) (suc i) d e h = getD-any l i d e (omega arith)
+
+pub map-set : {A B : Type 0} (f : A → B) (l : List A) (i : ℕ) (a : A) → set (map f l) i (f a) ≡ map f (set l i a)
+map-set f [] i a = refl
+map-set f (x ∷ l) zero a = refl
+map-set f (x ∷ l) (suc i) a = ap (λ (r : List _). f x ∷ r) (map-set f l i a)
+
+-- ---- a row
+
+module _ {A : Type 0} (room : ℕ) (z : A) where
+  pub padded-none : padded room z [] ≡ replicate room z
+  padded-none = rw sub-zero
+
+  pub padded-length : (xs : List A) → length xs ≤ room → length (padded room z xs) ≡ room
+  padded-length xs h = simp (length-append, length-replicate) (omega arith)
+
+  -- one more, at the first place that is free
+  pub padded-snoc : (n : ℕ) (xs : List A) (x : A) → length xs ≡ n → n < room
+      → set (padded room z xs) n x ≡ padded room z (xs ++ x ∷ [])
+  padded-snoc n xs x long h =
+      let left : room - length xs ≡ suc (room - suc (length xs)) = omega arith in
+      let used : length (xs ++ x ∷ []) ≡ suc (length xs) = length-append xs (x ∷ []) ∙ omega arith in
+      rw (left, set-at xs z (replicate (room - suc (length xs)) z) x n long, used, append-assoc)
+
+-- an entry of a row that holds what f makes of a list
+pub padded-map-at : {A B : Type 0} (room : ℕ) (z : B) (f : A → B) (xs : List A) (i : ℕ) (d : B) (e : A) → i < length xs
+    → getD (padded room z (map f xs)) i d ≡ f (getD xs i e)
+padded-map-at room z f xs i d e h =
+    let there : i < length (map f xs) = omega (arith, length-map xs f) in
+    List·getD-append (map f xs) _ d i there ∙ getD-any (map f xs) i d (f e) there ∙ List·getD-map f xs i e
+
+-- ---- a row of twenty
 
 zeros : (n i : ℕ) → _≡_ {A = ℕ} (getD (replicate n 0) i 0) 0
 zeros zero i = refl
@@ -24,9 +65,4 @@ row-at xs i h = List·getD-append xs (replicate (20 - length xs) 0) 0 i h
 
 pub padding : (xs : List ℕ) → length xs ≤ 20 → Padding xs
 padding xs h =
-    let rest : List ℕ = replicate (20 - length xs) 0 in
-    record {
-      long = length-append xs rest ∙ omega (arith, length-replicate (20 - length xs) zero);
-      first = take-append-seam xs rest;
-      past = zeros-past xs (20 - length xs);
-    }
+    record { long = padded-length 20 0 xs h; first = take-append-seam xs (replicate (20 - length xs) 0); past = zeros-past xs (20 - length xs) }

@@ -1,29 +1,20 @@
--- Assumes nothing.
+-- `bench_text::bench::bench` meets its contract: the text is laid out on a page, and copied where it fits. Assumes nothing.
 use mathlib.Core.Path.{refl, sym}
 use native.Mathlib.Omega.{arith}
 use borrow.Author.Needs.{needs}
 use Rattle.bench_text.proofs.Printing.{laid-taken, too-short, long-enough, counted}
 use Rattle.bench_text.proofs.bench.bench.Statement.{statement}
 use Rattle.bench_text.proofs.bench.bench.Tie as tie
-use Rattle.bench_text.proofs.bench.bench.Reads as reads
-use Rattle.bench_text.proofs.bench.bench.Lts as lts
-use Rattle.bench_text.proofs.buffers.text_buffer.Reads as text-buffer-reads
-use Rattle.bench_text.proofs.bench.lay.Reads as lay-reads
-use Rattle.bytes.proofs.copy.Reads as copy-reads
 
--- src/bench.rt:51:20
 text-buffer-requires : tie.Need-text-buffer-requires
 text-buffer-requires c κs = search needs
 
--- src/bench.rt:52:29
 slice-aggregate-lay : tie.Need-slice-aggregate-lay
 slice-aggregate-lay c = search needs
 
--- src/bench.rt:52:9
 lay-requires : tie.Need-lay-requires
 lay-requires c κs = search needs
 
--- src/bench.rt:54:9
 returns : tie.Need-returns
 returns c =
     let lay = c .before .before .lay .ensures in
@@ -31,23 +22,18 @@ returns c =
     let short = too-short (lay .0) text (omega arith) in
     (short .0, (short .1, (λ room. absurd (omega arith), (omega arith, refl))))
 
--- src/bench.rt:59:17
 array-share-prefix-page : tie.Need-array-share-prefix-page
 array-share-prefix-page c = search needs
 
--- src/bench.rt:59:17
 slice-aggregate-copy : tie.Need-slice-aggregate-copy
 slice-aggregate-copy c = sym (laid-taken (c .before .before .before .lay .ensures .0))
 
--- src/bench.rt:59:5
 copy-requires : tie.Need-copy-requires
 copy-requires c κs = omega (arith, laid-taken (c .before .before .before .before .lay .ensures .0))
 
--- src/bench.rt:46:1
 same-length : tie.Need-same-length
 same-length c = search needs
 
--- src/bench.rt:46:1
 returns-2 : tie.Need-returns-2
 returns-2 c =
     let lay = c .before .before .before .before .before .before .before .lay .ensures in

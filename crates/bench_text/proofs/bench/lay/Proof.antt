@@ -1,55 +1,41 @@
--- Assumes nothing.
+-- `bench_text::bench::lay` meets its contract: the line of the fault, or those of commands and groups. Assumes nothing.
 use native.Mathlib.Omega.{arith}
 use borrow.Author.Needs.{needs}
 use Rattle.bench_text.proofs.Putting.{puts-then}
 use Rattle.bench_text.proofs.Outcomes.{printable, fault-text}
 use Rattle.bench_text.proofs.bench.lay.Statement.{statement}
 use Rattle.bench_text.proofs.bench.lay.Tie as tie
-use Rattle.bench_text.proofs.bench.lay.Reads as reads
-use Rattle.bench_text.proofs.bench.lay.Lts as lts
-use Rattle.bench_text.proofs.lines.put_commands.Reads as put-commands-reads
-use Rattle.bench_text.proofs.lines.put_fault.Reads as put-fault-reads
-use Rattle.bench_text.proofs.lines.put_groups.Reads as put-groups-reads
-use Rattle.bench_text.proofs.work_sheet.work_sheet.Reads as work-sheet-reads
 
--- src/bench.rt:35:9
 work-sheet-requires : tie.Need-work-sheet-requires
 work-sheet-requires c κs = search needs
 
--- src/bench.rt:38:9
 put-fault-requires : tie.Need-put-fault-requires
 put-fault-requires c κs = search needs
 
--- src/bench.rt:38:9
 same-length : tie.Need-same-length
 same-length c = search needs
 
--- src/bench.rt:38:9
 returns : tie.Need-returns
 returns c =
     let worked = c .before .before .before .before .before .work-sheet in
     let put = c .before .before .put-fault .ensures in
     (rw (fault-text _ (worked .result) (worked .ensures) (c .before .before .before .before .if1 .taken)) at (put .0), omega arith)
 
--- src/bench.rt:41:9
 put-commands-requires : tie.Need-put-commands-requires
 put-commands-requires c κs =
     let worked = c .before .before .before .work-sheet in
     let p = printable _ (worked .result) (worked .ensures) (c .before .before .if1 .left) in
     (p .few, p .long, omega (arith, p .few))
 
--- src/bench.rt:42:5
 put-groups-requires : tie.Need-put-groups-requires
 put-groups-requires c κs =
     let worked = c .before .before .before .before .before .before .before .work-sheet in
     let p = printable _ (worked .result) (worked .ensures) (c .before .before .before .before .before .before .if1 .left) in
     (omega (arith, p .few, p .outcome-held .holds .few), p .outcome-held)
 
--- src/bench.rt:30:1
 same-length-2 : tie.Need-same-length-2
 same-length-2 c = search needs
 
--- src/bench.rt:30:1
 returns-2 : tie.Need-returns-2
 returns-2 c =
     let groups = c .before .before .put-groups in

@@ -6,10 +6,11 @@ use native.Mathlib.Omega.{arith}
 use lib.ListN.{length}
 use borrow.Author.Needs.{needs}
 use Rattle.sheet.specs.Held.{groupsIn}
+use Rattle.sheet.proofs.Rows.{held-count, held-levels}
 use Rattle.bench_text.specs.Text.{groupLines}
 use Rattle.bench_text.proofs.Putting.{Row, row-start, row-next, row-end}
 use Rattle.bench_text.proofs.Pieces.{groups-grow}
-use Rattle.bench_text.proofs.Working.{held-count, held-levels, held-readable}
+use Rattle.bench_text.proofs.Working.{group-at-held}
 use Rattle.bench_text.proofs.Ranks.{rank-at}
 use Rattle.bench_text.proofs.lines.put_groups.Statement.{statement}
 use Rattle.bench_text.proofs.lines.put_groups.Tie as tie
@@ -41,7 +42,7 @@ put-group-requires c κs =
     let l = c .before .before .before .before .loop in
     let few = h .holds .few in
     let below = c .before .before .before .loop-test .taken in
-    (omega arith, omega arith, held-readable (h .holds) (l .g) below _, rank-at h (l .g) below _)
+    (omega arith, omega arith, group-at-held (h .holds) (l .g) below _, rank-at h (l .g) below _)
 
 add-g : tie.Need-add-g Inv-loop μ-loop
 add-g c = search needs

@@ -2,8 +2,8 @@
 use mathlib.Core.Path.{_≡_}
 use native.Mathlib.Omega.{arith}
 use borrow.Author.Needs.{needs}
-use lib.ListN.{length, length-take}
-use Rattle.bench_text.proofs.Working.{group-few}
+use lib.ListN.{length}
+use Rattle.bench_text.proofs.Working.{group-size, group-few}
 use Rattle.bench_text.proofs.Ranks.{read-rank}
 use Rattle.bench_text.proofs.work.rank_of.Statement.{statement}
 use Rattle.bench_text.proofs.work.rank_of.Tie as tie
@@ -14,9 +14,7 @@ array-share-prefix-levels c =
     omega (arith, group-few (c .before .pre))
 
 slice-aggregate-read : tie.Need-slice-aggregate-read
-slice-aggregate-read c =
-    let long : length (c .before .before .args .group .levels) ≡ 20 = search needs in
-    simp length-take (omega (arith, group-few (c .before .before .pre)))
+slice-aggregate-read c = group-size (c .before .before .pre)
 
 read-requires : tie.Need-read-requires
 read-requires c κs = search needs

@@ -1,19 +1,22 @@
 -- `bench_text::work::ranks_of` meets its contract. The loop's invariant: the row holds the ranks of the groups passed. Assumes nothing.
+use mathlib.Core.Path.{ap, _∙_}
 use Prim.Native.Nat.{_-_}
 use borrow.Author.Needs.{needs}
-use Rattle.bench_text.proofs.Working.{held-readable}
-use Rattle.bench_text.proofs.Ranks.{Ranking, start, step, end}
+use Rattle.sheet.proofs.Rows.{held-levels}
+use Rattle.sheet.proofs.Filling.{Filled, filled-none, filled-more, filled-all}
+use Rattle.bench_text.specs.Work.{rankOf}
+use Rattle.bench_text.proofs.Working.{group-at-held}
 use Rattle.bench_text.proofs.work.ranks_of.Statement.{statement}
 use Rattle.bench_text.proofs.work.ranks_of.Tie as tie
 
 abbrev Inv-loop : tie.InvT-loop
-Inv-loop groups count ranks₀ g₀ ranks g = Ranking groups ranks g
+Inv-loop groups count ranks₀ g₀ ranks g = Filled rankOf groups ranks g
 
 abbrev μ-loop : tie.MeasureT-loop
 μ-loop groups count ranks₀ g₀ ranks g = count - g
 
 loop-holds : tie.Need-loop-holds Inv-loop μ-loop
-loop-holds c = start (c .args .t1)
+loop-holds c = filled-none rankOf (c .args .t1)
 
 mul-group : tie.Need-mul-group Inv-loop μ-loop
 mul-group c = search needs
@@ -24,7 +27,7 @@ element-copy-out-group c = search needs
 rank-of-requires : tie.Need-rank-of-requires Inv-loop μ-loop
 rank-of-requires c κs =
     let entry = c .before .before .before in
-    held-readable (entry .pre) _ (c .before .loop-test .taken) _
+    group-at-held (entry .pre) _ (c .before .loop-test .taken) _
 
 mul-ranks : tie.Need-mul-ranks Inv-loop μ-loop
 mul-ranks c = search needs
@@ -41,10 +44,12 @@ loop-less c = search needs
 loop-again : tie.Need-loop-again Inv-loop μ-loop
 loop-again c =
     let at = c .before .before .before in
-    step (at .before .pre) (at .loop .inv) _ (c .before .before .loop-test .taken) (c .rank-of .ensures)
+    let h = at .before .pre in
+    let more = c .before .before .loop-test .taken in
+    filled-more h (at .loop .inv) more (c .rank-of .ensures ∙ ap rankOf (held-levels h _ more _))
 
 returns : tie.Need-returns Inv-loop μ-loop
-returns c = end (c .before .before .pre) (c .before .loop .inv) (c .loop-test .left)
+returns c = filled-all (c .before .before .pre) (c .before .loop .inv) (c .loop-test .left)
 
 pub ranks-of-spec : {M : Type 1} → statement M
 ranks-of-spec =

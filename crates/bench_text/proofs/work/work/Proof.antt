@@ -2,7 +2,7 @@
 use Prim.Native.Nat.{_-_, _<_}
 use native.Mathlib.Omega.{arith}
 use borrow.Author.Needs.{needs}
-use Rattle.bench_text.proofs.Working.{held-readable, Progress, start, progress-held, index-below, step, end}
+use Rattle.bench_text.proofs.Working.{group-at-held, Progress, start, progress-held, index-below, step, end}
 use Rattle.bench_text.proofs.work.work.Statement.{statement}
 use Rattle.bench_text.proofs.work.work.Tie as tie
 
@@ -44,7 +44,7 @@ element-copy-out-group c = below c .1
 act-group-requires : tie.Need-act-group-requires Inv-loop μ-loop
 act-group-requires c κs =
     let at = c .before .before .before .before .before .before in
-    held-readable (progress-held (at .before .before .before .pre) (at .loop .inv)) _ (below (c .before) .0) _
+    group-at-held (progress-held (at .before .before .before .pre) (at .loop .inv)) _ (below (c .before) .0) _
 
 mul-answers : tie.Need-mul-answers Inv-loop μ-loop
 mul-answers c = search needs

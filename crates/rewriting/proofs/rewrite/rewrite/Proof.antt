@@ -13,13 +13,18 @@ use Rattle.rewriting.proofs.rewrite.rewrite.Tie as tie
 faultless : (c : tie.Else1)
     → let entry = c .before .before .before .before .before in
     Judged (entry .args .levels .now) (entry .args .target) (length (entry .args .list .now))
-faultless c = judged (search needs) (sym (c .before .judge .ensures) ∙ c .if1 .left)
+faultless c = judged (sym (c .before .judge .ensures) ∙ c .if1 .left)
 
 -- the same when the pushes are counted, and r is their number
 known : (c : tie.After-rewrite-number)
     → let entry = c .before .before .before .before .before .before .before .before .before .before .before .before in
     Judged (entry .args .levels .now) (entry .args .target) (length (entry .args .list .now))
 known c = faultless (c .before .before .before .before .before .before .before)
+
+-- the target stands in a row of twenty
+long : (c : tie.After-rewrite-number)
+    → length (c .before .before .before .before .before .before .before .before .before .before .before .before .args .target .cells) ≡ 20
+long c = search needs
 
 number : (c : tie.After-rewrite-number)
     → let entry = c .before .before .before .before .before .before .before .before .before .before .before .before in
@@ -43,19 +48,20 @@ sort-cells-requires c κs = (faultless (c .before .before) .readable .many, refl
 rewrite-number-requires : tie.Need-rewrite-number-requires
 rewrite-number-requires c κs =
     let j = faultless (c .before .before .before .before .before .before) in
-    (j .sound .many, row-long _ (j .readable .many) (sorted-row _ (j .readable .many) (c .before .before .before .sort-cells .ensures)), j .long)
+    let sorted = row-long _ (j .readable .many) (sorted-row _ (j .readable .many) (c .before .before .before .sort-cells .ensures)) in
+    (omega (arith, j .same, j .readable .many), sorted, search needs)
 
 raise-requires : tie.Need-raise-requires
 raise-requires c κs =
     let counted = c .before .before in
-    pushable (known counted) (number counted)
+    pushable (known counted) (number counted) (long counted)
 
 list-pushes-requires : tie.Need-list-pushes-requires
 list-pushes-requires c κs =
     let counted = c .before .before .before .before .before .before .before .before .before in
     let j = known counted in
     let high = number-below j (number counted) in
-    (omega (arith, j .readable .many), j .long, omega (arith, j .enough))
+    (omega (arith, j .readable .many), long counted, omega (arith, j .enough))
 
 same-length-2 : tie.Need-same-length-2
 same-length-2 c = search needs
@@ -68,7 +74,7 @@ returns-2 c =
     let at = c .before .before .before .before .before in
     let judged = at .before .before .before .before in
     let counted = judged .before .before .before in
-    rewrite-done _ _ _ (known counted) (number counted) (judged .raise .ensures) (at .if2 .taken) (c .before .before .list-pushes .ensures)
+    rewrite-done _ _ _ (known counted) (number counted) (judged .raise .ensures) (long counted) (at .if2 .taken) (c .before .before .list-pushes .ensures)
 
 same-length-4 : tie.Need-same-length-4
 same-length-4 c = search needs
@@ -77,7 +83,7 @@ returns-3 : tie.Need-returns-3
 returns-3 c =
     let judged = c .before .before .before .before in
     let counted = judged .before .before .before in
-    rewrite-ceiling _ _ _ (known counted) (number counted) (judged .raise .ensures) (c .if2 .left)
+    rewrite-ceiling _ _ _ (known counted) (number counted) (judged .raise .ensures) (long counted) (c .if2 .left)
 
 pub rewrite-spec : {M : Type 1} → statement M
 rewrite-spec =

@@ -1,4 +1,4 @@
--- `sheet::bytes::little` meets its contract: the value is spelled by the bytes from index i on, and lies below 256 to their number. Assumes nothing.
+-- `sheet::little::little` meets its contract: the value is spelled by the bytes from index i on, and lies below 256 to their number. Assumes nothing.
 use mathlib.Core.Path.{_≡_, refl, sym, _∙_}
 use Prim.Native.Nat.{suc, _+_, _-_, _*_, _^_, _≤_, _<_}
 use native.Mathlib.Nat.{sub-self, sub-zero, le-of-eq}

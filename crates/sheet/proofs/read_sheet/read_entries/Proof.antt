@@ -14,7 +14,8 @@ use Rattle.sheet.specs.declared.held.Groups.{Groups}
 use Rattle.sheet.specs.declared.held.Entry.{Entry}
 use Rattle.sheet.specs.declared.held.Sheet.{Sheet}
 use Rattle.sheet.specs.declared.commands.EntryRead.{EntryRead}
-use Rattle.sheet.proofs.Rows.{list-length, sizes-in, sizes-small, sheet-held}
+use Rattle.sheet.proofs.Valid.{small}
+use Rattle.sheet.proofs.Rows.{sizes-front, sheet-held}
 use Rattle.sheet.proofs.Loops.{Turns, turns-none, turns-more, turns-stop, turns-all, turns-long}
 use Rattle.sheet.proofs.Answers.{entry-numbered, answered-fault, answered-got}
 use Rattle.sheet.proofs.Cases.{row-fault, row-more, row-ends}
@@ -36,7 +37,7 @@ abbrev μ-loop : tie.MeasureT-loop
 -- the numbers of cells are those of the lists
 sizes-now : (c : tie.After-sizes-of Inv-loop μ-loop)
     → let groups = c .before .before .args .groups in take (groups .count) (c .sizes-of .result) ≡ map length (groupsIn groups)
-sizes-now c = rw (c .sizes-of .ensures) (sizes-in (c .before .before .args .groups) (c .before .before .pre .1))
+sizes-now c = rw (c .sizes-of .ensures) (sizes-front (c .before .before .pre .1))
 
 -- so what is found is a command of the sheet
 found-now : (c : tie.After-read-command Inv-loop μ-loop)
@@ -45,7 +46,7 @@ found-now : (c : tie.After-read-command Inv-loop μ-loop)
 found-now c = rw (sizes-now (c .before .before .before .before .before)) at (c .read-command .ensures)
 
 sizes-of-requires : tie.Need-sizes-of-requires Inv-loop μ-loop
-sizes-of-requires c κs = list-length _ (c .before .pre .1)
+sizes-of-requires c κs = c .before .pre .1
 
 no-entries-requires : tie.Need-no-entries-requires Inv-loop μ-loop
 no-entries-requires c κs = search needs
@@ -66,7 +67,8 @@ slice-aggregate-read-command c =
 read-command-requires : tie.Need-read-command-requires Inv-loop μ-loop
 read-command-requires c κs =
     let sizes = c .before .before .before .before in
-    rw (sizes .sizes-of .ensures) (sizes-small (sizes .before .before .args .groups) (sizes .before .before .pre .1))
+    let start = sizes .before .before in
+    rw (sizes-now sizes) (small (groupsIn (start .args .groups)) (start .pre .1 .readable))
 
 refuse-requires : tie.Need-refuse-requires Inv-loop μ-loop
 refuse-requires c κs = search needs
@@ -118,7 +120,7 @@ returns-3 c =
     let done : start .args .count ≤ l .i = search needs in
     let front = l .inv .front ∙ ap (padded 1000 noEntry) (map-id (l .inv .read)) in
     ap (λ (s : Sheet). record { number = 0; sheet = s })
-    (sheet-held (start .args .groups) (start .pre .1) _ (l .entries) (l .inv .read) (turns-long (l .inv) done) front)
+    (sheet-held (start .pre .1) _ (l .entries) (l .inv .read) (turns-long (l .inv) done) front)
     ∙ ap sheetRead (sym (row-ends _ _ _ _ _ _ (turns-all (l .inv) done) (c .if2 .left)))
 
 pub read-entries-spec : {M : Type 1} → statement M

@@ -17,10 +17,10 @@ use Rattle.sheet.proofs.read_sheet.read_sheet.Statement.{statement}
 use Rattle.sheet.proofs.read_sheet.read_sheet.Tie as tie
 
 abbrev Inv-loop : tie.InvT-loop
-Inv-loop s count list₀ at₀ i₀ list at i = Turns groupOf 64 noGroup (group s) count 1 list at i
+Inv-loop bytes count list₀ at₀ i₀ list at i = Turns groupOf 64 noGroup (group bytes) count 1 list at i
 
 abbrev μ-loop : tie.MeasureT-loop
-μ-loop s count list₀ at₀ i₀ list at i = count - i
+μ-loop bytes count list₀ at₀ i₀ list at i = count - i
 
 -- at the end, the row holds all groups
 held-now : (c : tie.After-loop Inv-loop μ-loop)
@@ -115,12 +115,12 @@ returns-5 : tie.Need-returns-5 Inv-loop μ-loop
 returns-5 c =
     let l = c .before .before .loop in
     let tests = c .before .before .before .before in
-    let s = tests .before .before .before .before .before .before .args .s .now in
+    let bytes = tests .before .before .before .before .before .before .args .bytes .now in
     let back = ap groupsIn (held-now (c .before)) ∙ groups-back (l .inv .read) in
     let whole =
-    sheet-groups s _ (omega arith) (tests .before .before .wide .ensures) (tests .before .if2 .left) (tests .if3 .left) (l .inv .read) _
+    sheet-groups bytes _ (omega arith) (tests .before .before .wide .ensures) (tests .before .if2 .left) (tests .if3 .left) (l .inv .read) _
     (turns-all (l .inv) (search needs)) in
-    c .read-commands .ensures ∙ ap sheetRead (ap (λ (Ls : List (List ℕ)). commands Ls s (l .at)) back ∙ sym whole)
+    c .read-commands .ensures ∙ ap sheetRead (ap (λ (Ls : List (List ℕ)). commands Ls bytes (l .at)) back ∙ sym whole)
 
 pub read-sheet-spec : {M : Type 1} → statement M
 read-sheet-spec =
