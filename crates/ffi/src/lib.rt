@@ -1,10 +1,12 @@
-// The functions for C and Rust, under names with the prefix tm_. Each has the contract of the function that it passes on; of `bench`'s all that C can use.
+// The functions for C and Rust, under names with the prefix tm_ (include/turretmedlar.h). Each has the contract of the function that it passes on; of `bench`'s all
+// that C can use. A lent list crosses as its address and its length.
 ghost use mathlib.Core.Path.{_≡_};
 ghost use Prim.Native.Nat.{_≤_};
 ghost use lib.ListN.{length};
 ghost use Rattle.theory.specs.CountUp.{callLevels};
-ghost use Rattle.permutation.specs.Answers.{ranked, unranked};
-ghost use Rattle.charge.specs.Answers.{counted};
+ghost use Rattle.permutation.specs.Answers.{pushed, placed, digited, ranked, unranked};
+ghost use Rattle.charge.specs.Answers.{reading, placePushes, placeLevels, counted};
+ghost use Rattle.rewriting.specs.Answers.{rewritten, rewriteLevels, rewriteList, RewriteOf, stored, storeLevels, StoreOf, symbolRead};
 ghost use Rattle.sheet.specs.Sheet.{sheet as contents};
 ghost use Rattle.bench_text.specs.Text.{textOf};
 ghost use Rattle.bench_text.specs.Answers.{printed, printedOn};
@@ -13,11 +15,43 @@ use bench_text::answers::Printed;
 use bench_text::bench::bench;
 use charge::answers::Pushes;
 use charge::count_up::count_up;
+use charge::push_level::push_level;
+use charge::read::read;
+use permutation::answers::Digits;
 use permutation::answers::Permutation;
 use permutation::answers::Permuted;
+use permutation::answers::Placed;
 use permutation::answers::Ranked;
+use permutation::digits::digits;
+use permutation::push::push;
 use permutation::rank::rank;
+use permutation::successor::successor;
 use permutation::unrank::unrank;
+use rewriting::answers::Symbol;
+use rewriting::read_symbol::read_symbol;
+use rewriting::rewrite::rewrite;
+use rewriting::store::store;
+
+#[no_mangle]
+pub extern "C" fn tm_push(permutation: Permutation, place: usize) -> Permuted
+    ensures { λ r. ⌜ r ≡ pushed permutation place ⌝ }
+{
+    push(permutation, place)
+}
+
+#[no_mangle]
+pub extern "C" fn tm_successor(permutation: Permutation) -> Placed
+    ensures { λ r. ⌜ r ≡ placed permutation ⌝ }
+{
+    successor(permutation)
+}
+
+#[no_mangle]
+pub extern "C" fn tm_digits(permutation: Permutation) -> Digits
+    ensures { λ r. ⌜ r ≡ digited permutation ⌝ }
+{
+    digits(permutation)
+}
 
 #[no_mangle]
 pub extern "C" fn tm_rank(permutation: Permutation) -> Ranked
@@ -34,11 +68,52 @@ pub extern "C" fn tm_unrank(n: usize, rank: u64) -> Permuted
 }
 
 #[no_mangle]
+pub extern "C" fn tm_read(levels: &[u16]) -> Permuted
+    ensures { λ r. ⌜ r ≡ reading (now (levels .entry)) ⌝ }
+{
+    read(levels)
+}
+
+#[no_mangle]
+pub extern "C" fn tm_push_level(levels: &mut [u16], place: usize) -> Pushes
+    ensures { λ r. ⌜ r ≡ placePushes (now (levels .entry)) place ⌝ }
+    ensures { λ _. ⌜ now (levels .exit) ≡ placeLevels (now (levels .entry)) place ⌝ }
+{
+    push_level(levels, place)
+}
+
+#[no_mangle]
 pub extern "C" fn tm_count_up(levels: &mut [u16], k: u32) -> Pushes
     ensures { λ r. ⌜ r ≡ counted (now (levels .entry)) k ⌝ }
     ensures { λ _. ⌜ now (levels .exit) ≡ callLevels k (now (levels .entry)) ⌝ }
 {
     count_up(levels, k)
+}
+
+#[no_mangle]
+pub extern "C" fn tm_rewrite(levels: &mut [u16], target: Permutation, list: &mut [u8]) -> Pushes
+    ensures { λ r. ⌜ r ≡ rewritten (now (levels .entry)) target (length (now (list .entry))) ⌝ }
+    ensures { λ _. ⌜ now (levels .exit) ≡ rewriteLevels (now (levels .entry)) target (length (now (list .entry))) ⌝ }
+    ensures { λ _. ⌜ now (list .exit) ≡ rewriteList (now (levels .entry)) target (now (list .entry)) ⌝ }
+    ensures { λ r. ⌜ (r .number ≡ 0 → RewriteOf (now (levels .entry)) target (now (levels .exit)) (r .pushes)) ⌝ }
+{
+    rewrite(levels, target, list)
+}
+
+#[no_mangle]
+pub extern "C" fn tm_store(levels: &mut [u16], m: u64, symbol: u64) -> Pushes
+    ensures { λ r. ⌜ r ≡ stored (now (levels .entry)) m symbol ⌝ }
+    ensures { λ _. ⌜ now (levels .exit) ≡ storeLevels (now (levels .entry)) m symbol ⌝ }
+    ensures { λ r. ⌜ (r .number ≡ 0 → StoreOf (now (levels .entry)) m symbol (now (levels .exit))) ⌝ }
+{
+    store(levels, m, symbol)
+}
+
+#[no_mangle]
+pub extern "C" fn tm_read_symbol(levels: &[u16], m: u64) -> Symbol
+    ensures { λ r. ⌜ r ≡ symbolRead (now (levels .entry)) m ⌝ }
+{
+    read_symbol(levels, m)
 }
 
 #[no_mangle]

@@ -1,0 +1,167 @@
+//! The list of benchmarks. No input is refused: `unwrap` holds this for both sides.
+use crate::pair::{pair, Pair};
+use crate::random::Random;
+use std::path::Path;
+
+pub struct Benchmark {
+    pub name: String,
+    /// A sheet has groups of several sizes.
+    pub n: Option<usize>,
+    /// How often a round goes over all inputs.
+    pub passes: usize,
+    /// Makes the inputs.
+    pub build: Box<dyn Fn() -> Box<dyn Pair>>,
+}
+
+/// Inputs of a job: so many that a branch predictor does not learn them by heart.
+const INPUTS: usize = 10_000;
+const SIZES: [usize; 3] = [4, 8, 20];
+/// Of count up: k, its name, and the number of inputs, fewer where a call takes long.
+const COUNTS: [(u32, &str, usize); 3] = [(1, "1", INPUTS), (100, "100", INPUTS / 10), (60_000, "60,000", 10)];
+/// Files of bench sheets, each with what it has and the passes of a round.
+const SHEETS: [(&str, &str, usize); 5] = [
+    ("paper", "document 01's, 1 group, 3 commands", 500),
+    ("sixty-four-groups-no-commands", "64 groups, no command", 100),
+    ("longest", "64 groups, 1,000 rewrites", 10),
+    ("thousand-counts", "64 groups, 1,000 count-ups of 60", 10),
+    ("thousand-stores", "64 groups, 1,000 stores", 10),
+];
+
+type OfSize = fn(usize) -> Box<dyn Pair>;
+
+pub fn benchmarks() -> Vec<Benchmark> {
+    let jobs: [(&str, OfSize); 6] = [("rank", rank), ("unrank", unrank), ("read", read), ("rewrite", rewrite), ("store", store), ("read_symbol", read_symbol)];
+    let mut list = vec![];
+    for (name, job) in jobs {
+        list.extend(SIZES.map(|n| Benchmark { name: name.into(), n: Some(n), passes: 1, build: Box::new(move || job(n)) }));
+    }
+    for (k, text, count) in COUNTS {
+        let build = |n| Box::new(move || count_up(n, k, count));
+        list.extend(SIZES.map(|n| Benchmark { name: format!("count_up by {text}"), n: Some(n), passes: 1, build: build(n) }));
+    }
+    list.extend(SHEETS.map(|(file, text, passes)| Benchmark { name: format!("sheet: {text}"), n: None, passes, build: Box::new(move || bench(&sheet(file))) }));
+    list
+}
+
+pub fn sheet(file: &str) -> Vec<u8> {
+    std::fs::read(Path::new(env!("CARGO_MANIFEST_DIR")).join("../../crates/sheets/data").join(file)).expect(file)
+}
+
+fn inputs<I>(count: usize, mut make: impl FnMut(&mut Random) -> I) -> Vec<I> {
+    let mut random = Random::new();
+    (0..count).map(|_| make(&mut random)).collect()
+}
+
+pub fn factorial(n: usize) -> u64 {
+    (1..=n as u64).product()
+}
+
+/// The same record for each side.
+fn records(random: &mut Random, n: usize) -> (turretmedlar::Permutation, model::Permutation) {
+    let cells = random.cells(n);
+    (turretmedlar::Permutation { n, cells }, model::Permutation { n, cells })
+}
+
+fn rank(n: usize) -> Box<dyn Pair> {
+    pair(
+        inputs(INPUTS, |random| records(random, n)),
+        |(record, _), rank| *rank = turretmedlar::rank(*record).unwrap(),
+        |(_, record), rank| *rank = model::rank(record).unwrap(),
+    )
+}
+
+fn unrank(n: usize) -> Box<dyn Pair> {
+    pair(
+        inputs(INPUTS, |random| random.below(factorial(n))),
+        move |&rank, cells| *cells = turretmedlar::unrank(n, rank).unwrap().cells,
+        move |&rank, cells| *cells = model::unrank(n, rank).unwrap().cells,
+    )
+}
+
+fn read(n: usize) -> Box<dyn Pair> {
+    pair(
+        inputs(INPUTS, |random| random.levels(n)),
+        move |levels, cells| *cells = turretmedlar::read(&levels[..n]).unwrap().cells,
+        move |levels, cells| *cells = model::read(&levels[..n]).unwrap().cells,
+    )
+}
+
+fn read_symbol(n: usize) -> Box<dyn Pair> {
+    let m = factorial(n);
+    pair(
+        inputs(INPUTS, |random| random.levels(n)),
+        move |levels, symbol| *symbol = turretmedlar::read_symbol(&levels[..n], m).unwrap(),
+        move |levels, symbol| *symbol = model::read_symbol(&levels[..n], m).unwrap(),
+    )
+}
+
+/// What a job that pushes leaves in the lent lists, and its number of pushes.
+#[derive(Debug, Default, PartialEq)]
+struct Left {
+    levels: [u16; 20],
+    list: [u8; 20],
+    pushes: u32,
+}
+
+/// A job that pushes, on a fresh copy of the levels: the copy is in the time of both sides.
+fn on_levels<X>(n: usize, job: impl Fn(&mut [u16], &X, &mut [u8]) -> u32) -> impl Fn(&([u16; 20], X), &mut Left) {
+    move |(levels, argument), left| {
+        left.levels = *levels;
+        left.pushes = job(&mut left.levels[..n], argument, &mut left.list);
+    }
+}
+
+fn count_up(n: usize, k: u32, count: usize) -> Box<dyn Pair> {
+    pair(
+        inputs(count, |random| (random.levels(n), k)),
+        on_levels(n, |levels, &k, _| turretmedlar::count_up(levels, k).unwrap()),
+        on_levels(n, |levels, &k, _| model::count_up(levels, k).unwrap()),
+    )
+}
+
+fn rewrite(n: usize) -> Box<dyn Pair> {
+    pair(
+        inputs(INPUTS, |random| (random.levels(n), records(random, n))),
+        on_levels(n, |levels, (target, _), list| turretmedlar::rewrite(levels, *target, list).unwrap()),
+        on_levels(n, |levels, (_, target), list| model::rewrite(levels, target, list).unwrap()),
+    )
+}
+
+fn store(n: usize) -> Box<dyn Pair> {
+    let m = factorial(n);
+    pair(
+        inputs(INPUTS, |random| (random.levels(n), random.below(m))),
+        on_levels(n, move |levels, &symbol, _| turretmedlar::store(levels, m, symbol).unwrap()),
+        on_levels(n, move |levels, &symbol, _| model::store(levels, m, symbol).unwrap()),
+    )
+}
+
+/// A printed text at the start of a buffer.
+#[derive(Debug)]
+struct Text {
+    buffer: Vec<u8>,
+    length: usize,
+}
+
+impl Default for Text {
+    fn default() -> Text {
+        Text { buffer: vec![0; turretmedlar::TEXT_BYTES], length: 0 }
+    }
+}
+
+impl PartialEq for Text {
+    fn eq(&self, other: &Text) -> bool {
+        self.buffer[..self.length] == other.buffer[..other.length]
+    }
+}
+
+fn bench(sheet: &[u8]) -> Box<dyn Pair> {
+    pair(
+        vec![sheet.to_vec()],
+        |sheet, text: &mut Text| text.length = turretmedlar::bench(sheet, &mut text.buffer).unwrap(),
+        |sheet, text: &mut Text| {
+            text.buffer = model::bench(sheet);
+            text.length = text.buffer.len();
+        },
+    )
+}

@@ -1,0 +1,56 @@
+//! The least stack on which each job runs, by a thread of a process of its own: a stack that is too small ends it.
+use crate::benchmarks::{factorial, sheet};
+use crate::random::Random;
+use std::process::{Command, Stdio};
+use std::thread::Builder;
+
+/// The word that asks for these numbers. With an index in the list of jobs and a size in KiB: run that job on such a stack.
+pub const STACK: &str = "stack";
+
+const STEP: usize = 16;
+
+const JOBS: [(&str, fn()); 7] = [
+    ("rank", || done(turretmedlar::rank(record()))),
+    ("unrank", || done(turretmedlar::unrank(20, factorial(20) - 1))),
+    ("count_up by 60,000", || done(turretmedlar::count_up(&mut levels(), 60_000))),
+    ("rewrite", || done(turretmedlar::rewrite(&mut levels(), record(), &mut [0; 20]))),
+    ("store", || done(turretmedlar::store(&mut levels(), factorial(20), factorial(20) - 1))),
+    ("bench, 1,000 rewrites", || bench("longest")),
+    ("bench, 1,000 stores", || bench("thousand-stores")),
+];
+
+fn record() -> turretmedlar::Permutation {
+    turretmedlar::Permutation { n: 20, cells: Random::new().cells(20) }
+}
+
+fn levels() -> [u16; 20] {
+    Random::new().levels(20)
+}
+
+/// The sheet and the text are not on the stack.
+fn bench(file: &str) {
+    done(turretmedlar::bench(&sheet(file), &mut vec![0; turretmedlar::TEXT_BYTES]));
+}
+
+fn done<T>(answer: Result<T, turretmedlar::Reason>) {
+    assert!(answer.is_ok());
+}
+
+pub fn run(index: usize, kib: usize) {
+    let thread = Builder::new().stack_size(kib * 1024).spawn(JOBS[index].1).expect("a thread");
+    thread.join().expect("the job is done");
+}
+
+fn enough(index: usize, kib: usize) -> bool {
+    let mut command = Command::new(std::env::current_exe().expect("the program's own path"));
+    command.args([STACK, &index.to_string(), &kib.to_string()]).stderr(Stdio::null());
+    command.status().expect("the program starts").success()
+}
+
+pub fn print() {
+    println!("| job, n = 20 | least stack, KiB |\n| --- | --: |");
+    for (index, (name, _)) in JOBS.iter().enumerate() {
+        let least = (1..).map(|steps| steps * STEP).find(|&kib| enough(index, kib)).expect("some stack is enough");
+        println!("| {name} | {least} |");
+    }
+}

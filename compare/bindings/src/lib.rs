@@ -1,0 +1,163 @@
+//! Safe Rust bindings of Turretmedlar: groups of 2 to 20 cells that store by order of charge. Every function takes any input; a refused job gives its reason and
+//! leaves every lent list as it was. The functions are those of `include/turretmedlar.h`, which says more of each; [`raw`] has their answers as they cross.
+//! They use no heap.
+#![no_std]
+
+pub mod raw;
+
+use core::{error, fmt};
+pub use raw::Permutation;
+
+/// The longest bench sheet.
+pub const SHEET_BYTES: usize = 24_627;
+/// A buffer of so many bytes has room for the text of any sheet.
+pub const TEXT_BYTES: usize = 31_344;
+
+/// Why a job is refused, by document 01's numbers and words. Where several hold, the lowest is given.
+#[repr(u8)]
+#[derive(Clone, Copy, Debug, PartialEq, Eq, PartialOrd, Ord)]
+pub enum Reason {
+    /// n is below 2 or above 20, of the group or of a target.
+    Size = 1,
+    /// A target's n differs from the group's, a push list has fewer than n - 1 bytes, or a text buffer is too short.
+    Fit = 2,
+    /// A record is no permutation.
+    Muddle = 3,
+    /// Two levels are equal.
+    Tie = 4,
+    /// A rank, place, m or symbol is outside its range.
+    Value = 5,
+    /// The highest level plus the job's pushes exceeds 65,535.
+    Ceiling = 6,
+    /// The levels hold a prefix that is none of the m symbols'.
+    Idle = 7,
+    /// A bench sheet is ill-formed. It stands in a text; no function gives it.
+    Sheet = 8,
+}
+
+/// Each reason beside its word, by number from 1.
+const REASONS: [(Reason, &str); 8] = [
+    (Reason::Size, "size"),
+    (Reason::Fit, "fit"),
+    (Reason::Muddle, "muddle"),
+    (Reason::Tie, "tie"),
+    (Reason::Value, "value"),
+    (Reason::Ceiling, "ceiling"),
+    (Reason::Idle, "idle"),
+    (Reason::Sheet, "sheet"),
+];
+
+impl fmt::Display for Reason {
+    fn fmt(&self, f: &mut fmt::Formatter<'_>) -> fmt::Result {
+        f.write_str(REASONS[*self as usize - 1].1)
+    }
+}
+
+impl error::Error for Reason {}
+
+impl Permutation {
+    /// The record of these names, highest charge first. More than 20 names have none; all else is for the jobs to judge.
+    pub fn new(names: &[u8]) -> Result<Permutation, Reason> {
+        let mut cells = [0; 20];
+        cells.get_mut(..names.len()).ok_or(Reason::Size)?.copy_from_slice(names);
+        Ok(Permutation { n: names.len(), cells })
+    }
+
+    /// The names in the first n places; all twenty where n is above 20.
+    pub fn names(&self) -> &[u8] {
+        &self.cells[..self.n.min(20)]
+    }
+}
+
+fn given<T>(number: u8, value: T) -> Result<T, Reason> {
+    if number == 0 {
+        Ok(value)
+    } else {
+        Err(REASONS[number as usize - 1].0)
+    }
+}
+
+/// The permutation after a push at a place from 2 to n.
+/// Refused: Size, Muddle, Value.
+pub fn push(permutation: Permutation, place: usize) -> Result<Permutation, Reason> {
+    let answer = raw::push(permutation, place);
+    given(answer.number, answer.permutation)
+}
+
+/// The place that the next step pushes.
+/// Refused: Size, Muddle.
+pub fn successor(permutation: Permutation) -> Result<usize, Reason> {
+    let answer = raw::successor(permutation);
+    given(answer.number, answer.place)
+}
+
+/// The digits of the rank, b0 first, with 0 past n.
+/// Refused: Size, Muddle.
+pub fn digits(permutation: Permutation) -> Result<[u8; 20], Reason> {
+    let answer = raw::digits(permutation);
+    given(answer.number, answer.row)
+}
+
+/// The rank, 0 to n! - 1: how many steps lead here from the permutation of rank 0.
+/// Refused: Size, Muddle.
+pub fn rank(permutation: Permutation) -> Result<u64, Reason> {
+    let answer = raw::rank(permutation);
+    given(answer.number, answer.rank)
+}
+
+/// The permutation of n cells that has this rank.
+/// Refused: Size, Value.
+pub fn unrank(n: usize, rank: u64) -> Result<Permutation, Reason> {
+    let answer = raw::unrank(n, rank);
+    given(answer.number, answer.permutation)
+}
+
+/// The permutation of levels, highest first.
+/// Refused: Size, Tie.
+pub fn read(levels: &[u16]) -> Result<Permutation, Reason> {
+    let answer = raw::read(levels);
+    given(answer.number, answer.permutation)
+}
+
+/// Pushes the cell at a place, and gives the number of pushes, 1.
+/// Refused: Size, Tie, Value, Ceiling.
+pub fn push_level(levels: &mut [u16], place: usize) -> Result<u32, Reason> {
+    let answer = raw::push_level(levels, place);
+    given(answer.number, answer.pushes)
+}
+
+/// Does k next steps, and gives the number of pushes, k.
+/// Refused: Size, Tie, Ceiling.
+pub fn count_up(levels: &mut [u16], k: u32) -> Result<u32, Reason> {
+    let answer = raw::count_up(levels, k);
+    given(answer.number, answer.pushes)
+}
+
+/// Makes the levels read as the target by the fewest pushes. Their names go to the start of the list, and their number is given.
+/// Refused: Size, Fit, Muddle, Tie, Ceiling.
+pub fn rewrite(levels: &mut [u16], target: Permutation, list: &mut [u8]) -> Result<u32, Reason> {
+    let answer = raw::rewrite(levels, target, list);
+    given(answer.number, answer.pushes)
+}
+
+/// Stores a symbol of a code of m symbols, and gives the number of pushes.
+/// Refused: Size, Tie, Value, Ceiling.
+pub fn store(levels: &mut [u16], m: u64, symbol: u64) -> Result<u32, Reason> {
+    let answer = raw::store(levels, m, symbol);
+    given(answer.number, answer.pushes)
+}
+
+/// The symbol that stands, of a code of m symbols.
+/// Refused: Size, Tie, Value, Idle.
+pub fn read_symbol(levels: &[u16], m: u64) -> Result<u64, Reason> {
+    let answer = raw::read_symbol(levels, m);
+    given(answer.number, answer.symbol)
+}
+
+/// The whole text of a bench sheet, a faulty one's too, in the first bytes of `text`; gives their number. [`TEXT_BYTES`] are always enough.
+/// It needs 256 KiB of stack.
+/// Refused: Fit.
+pub fn bench(sheet: &[u8], text: &mut [u8]) -> Result<usize, Reason> {
+    let answer = raw::bench(sheet, text);
+    given(answer.number, answer.length)
+}

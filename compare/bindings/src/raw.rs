@@ -1,0 +1,147 @@
+//! The answers as they cross: a number first, 0 where the job is done, and zeros beside any other number. `include/turretmedlar.h` says of each function what
+//! it does, its refusals and what it leaves unchanged; the functions of the same names at the root of this package give the same as a `Result`.
+use core::mem::{offset_of, size_of};
+
+/// Document 01: an order. The first n places hold each of 1 to n once, highest charge first; the places past n hold 0.
+#[repr(C)]
+#[derive(Clone, Copy, Debug, PartialEq, Eq)]
+pub struct Permutation {
+    pub n: usize,
+    pub cells: [u8; 20],
+}
+
+/// What [`push`], [`unrank`] and [`read`] answer.
+#[repr(C)]
+#[derive(Clone, Copy, Debug, PartialEq, Eq)]
+pub struct Permuted {
+    pub number: u8,
+    pub permutation: Permutation,
+}
+
+/// What [`successor`] answers: a place from 2 to n.
+#[repr(C)]
+#[derive(Clone, Copy, Debug, PartialEq, Eq)]
+pub struct Placed {
+    pub number: u8,
+    pub place: usize,
+}
+
+/// What [`digits`] answers: b0 first, 0 past n.
+#[repr(C)]
+#[derive(Clone, Copy, Debug, PartialEq, Eq)]
+pub struct Digits {
+    pub number: u8,
+    pub row: [u8; 20],
+}
+
+/// What [`rank`] answers.
+#[repr(C)]
+#[derive(Clone, Copy, Debug, PartialEq, Eq)]
+pub struct Ranked {
+    pub number: u8,
+    pub rank: u64,
+}
+
+/// What the jobs that push on levels answer: how many pushes they did.
+#[repr(C)]
+#[derive(Clone, Copy, Debug, PartialEq, Eq)]
+pub struct Pushes {
+    pub number: u8,
+    pub pushes: u32,
+}
+
+/// What [`read_symbol`] answers.
+#[repr(C)]
+#[derive(Clone, Copy, Debug, PartialEq, Eq)]
+pub struct Symbol {
+    pub number: u8,
+    pub symbol: u64,
+}
+
+/// What [`bench`] answers: the length of the text.
+#[repr(C)]
+#[derive(Clone, Copy, Debug, PartialEq, Eq)]
+pub struct Printed {
+    pub number: u8,
+    pub length: usize,
+}
+
+// The layouts that compare/c/check.c asserts too.
+const _: () = assert!(size_of::<Permutation>() == 32 && offset_of!(Permutation, cells) == 8);
+const _: () = assert!(size_of::<Permuted>() == 40 && offset_of!(Permuted, permutation) == 8);
+const _: () = assert!(size_of::<Placed>() == 16 && offset_of!(Placed, place) == 8);
+const _: () = assert!(size_of::<Digits>() == 21 && offset_of!(Digits, row) == 1);
+const _: () = assert!(size_of::<Ranked>() == 16 && offset_of!(Ranked, rank) == 8);
+const _: () = assert!(size_of::<Pushes>() == 8 && offset_of!(Pushes, pushes) == 4);
+const _: () = assert!(size_of::<Symbol>() == 16 && offset_of!(Symbol, symbol) == 8);
+const _: () = assert!(size_of::<Printed>() == 16 && offset_of!(Printed, length) == 8);
+
+mod library {
+    use super::*;
+
+    // A lent list crosses as its address and its length.
+    extern "C" {
+        pub fn tm_push(permutation: Permutation, place: usize) -> Permuted;
+        pub fn tm_successor(permutation: Permutation) -> Placed;
+        pub fn tm_digits(permutation: Permutation) -> Digits;
+        pub fn tm_rank(permutation: Permutation) -> Ranked;
+        pub fn tm_unrank(n: usize, rank: u64) -> Permuted;
+        pub fn tm_read(levels: *const u16, n: usize) -> Permuted;
+        pub fn tm_push_level(levels: *mut u16, n: usize, place: usize) -> Pushes;
+        pub fn tm_count_up(levels: *mut u16, n: usize, k: u32) -> Pushes;
+        pub fn tm_rewrite(levels: *mut u16, n: usize, target: Permutation, list: *mut u8, room: usize) -> Pushes;
+        pub fn tm_store(levels: *mut u16, n: usize, m: u64, symbol: u64) -> Pushes;
+        pub fn tm_read_symbol(levels: *const u16, n: usize, m: u64) -> Symbol;
+        pub fn tm_bench(sheet: *const u8, length: usize, text: *mut u8, room: usize) -> Printed;
+    }
+}
+
+// Safe: the library takes every value, and a Rust slice is an address with the length that belongs to it, shared or not as the library takes it.
+
+pub fn push(permutation: Permutation, place: usize) -> Permuted {
+    unsafe { library::tm_push(permutation, place) }
+}
+
+pub fn successor(permutation: Permutation) -> Placed {
+    unsafe { library::tm_successor(permutation) }
+}
+
+pub fn digits(permutation: Permutation) -> Digits {
+    unsafe { library::tm_digits(permutation) }
+}
+
+pub fn rank(permutation: Permutation) -> Ranked {
+    unsafe { library::tm_rank(permutation) }
+}
+
+pub fn unrank(n: usize, rank: u64) -> Permuted {
+    unsafe { library::tm_unrank(n, rank) }
+}
+
+pub fn read(levels: &[u16]) -> Permuted {
+    unsafe { library::tm_read(levels.as_ptr(), levels.len()) }
+}
+
+pub fn push_level(levels: &mut [u16], place: usize) -> Pushes {
+    unsafe { library::tm_push_level(levels.as_mut_ptr(), levels.len(), place) }
+}
+
+pub fn count_up(levels: &mut [u16], k: u32) -> Pushes {
+    unsafe { library::tm_count_up(levels.as_mut_ptr(), levels.len(), k) }
+}
+
+pub fn rewrite(levels: &mut [u16], target: Permutation, list: &mut [u8]) -> Pushes {
+    unsafe { library::tm_rewrite(levels.as_mut_ptr(), levels.len(), target, list.as_mut_ptr(), list.len()) }
+}
+
+pub fn store(levels: &mut [u16], m: u64, symbol: u64) -> Pushes {
+    unsafe { library::tm_store(levels.as_mut_ptr(), levels.len(), m, symbol) }
+}
+
+pub fn read_symbol(levels: &[u16], m: u64) -> Symbol {
+    unsafe { library::tm_read_symbol(levels.as_ptr(), levels.len(), m) }
+}
+
+pub fn bench(sheet: &[u8], text: &mut [u8]) -> Printed {
+    unsafe { library::tm_bench(sheet.as_ptr(), sheet.len(), text.as_mut_ptr(), text.len()) }
+}

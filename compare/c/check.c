@@ -1,0 +1,148 @@
+/* Every function called from C through the header: layouts as the library has them, readings of document 01, refusals, empty lists at NULL. */
+#include <stdio.h>
+#include <string.h>
+
+#include "turretmedlar.h"
+
+/* The layouts that compare/bindings/src/raw.rs asserts too. */
+_Static_assert(sizeof(tm_permutation) == 32 && offsetof(tm_permutation, cells) == 8, "tm_permutation");
+_Static_assert(sizeof(tm_permuted) == 40 && offsetof(tm_permuted, permutation) == 8, "tm_permuted");
+_Static_assert(sizeof(tm_placed) == 16 && offsetof(tm_placed, place) == 8, "tm_placed");
+_Static_assert(sizeof(tm_digit_row) == 21 && offsetof(tm_digit_row, row) == 1, "tm_digit_row");
+_Static_assert(sizeof(tm_ranked) == 16 && offsetof(tm_ranked, rank) == 8, "tm_ranked");
+_Static_assert(sizeof(tm_pushes) == 8 && offsetof(tm_pushes, pushes) == 4, "tm_pushes");
+_Static_assert(sizeof(tm_symbol) == 16 && offsetof(tm_symbol, symbol) == 8, "tm_symbol");
+_Static_assert(sizeof(tm_printed) == 16 && offsetof(tm_printed, length) == 8, "tm_printed");
+
+static int passed, failed;
+
+static void check(int holds, const char *what, int line) {
+    if (holds) {
+        passed++;
+    } else {
+        failed++;
+        printf("line %d: %s\n", line, what);
+    }
+}
+#define CHECK(holds) check((holds), #holds, __LINE__)
+
+static const tm_permutation zeros = {0, {0}};
+
+static int same(tm_permutation a, tm_permutation b) {
+    return a.n == b.n && memcmp(a.cells, b.cells, TM_CELLS) == 0;
+}
+
+static int refused(tm_permuted answer, uint8_t number) {
+    return answer.number == number && same(answer.permutation, zeros);
+}
+
+static int pushes(tm_pushes answer, uint8_t number, uint32_t count) {
+    return answer.number == number && answer.pushes == count;
+}
+
+static void check_permutations(void) {
+    const tm_permutation p = {4, {4, 2, 3, 1}}, next = {4, {2, 4, 3, 1}}, six = {6, {2, 5, 4, 3, 6, 1}};
+    const tm_permutation small = {1, {1}}, muddled = {4, {4, 2, 2, 1}};
+    const uint8_t digits[TM_CELLS] = {3, 1, 3, 1, 0, 0}, none[TM_CELLS] = {0};
+    tm_permuted answer = tm_push(p, 2);
+    CHECK(answer.number == TM_DONE && same(answer.permutation, next));
+    CHECK(refused(tm_push(p, 1), TM_VALUE) && refused(tm_push(p, 5), TM_VALUE));
+    CHECK(refused(tm_push(small, 2), TM_SIZE) && refused(tm_push(muddled, 2), TM_MUDDLE));
+    tm_placed placed = tm_successor(p), unplaced = tm_successor(muddled);
+    CHECK(placed.number == TM_DONE && placed.place == 2);
+    CHECK(unplaced.number == TM_MUDDLE && unplaced.place == 0);
+    tm_digit_row row = tm_digits(six), no_row = tm_digits(small);
+    CHECK(row.number == TM_DONE && memcmp(row.row, digits, TM_CELLS) == 0);
+    CHECK(no_row.number == TM_SIZE && memcmp(no_row.row, none, TM_CELLS) == 0);
+    tm_ranked ranked = tm_rank(six), unranked = tm_rank(muddled);
+    CHECK(ranked.number == TM_DONE && ranked.rank == 219);
+    CHECK(unranked.number == TM_MUDDLE && unranked.rank == 0);
+    answer = tm_unrank(6, 219);
+    CHECK(answer.number == TM_DONE && same(answer.permutation, six));
+    CHECK(refused(tm_unrank(3, 6), TM_VALUE) && refused(tm_unrank(21, 0), TM_SIZE));
+}
+
+static void check_levels(void) {
+    const tm_permutation expected = {3, {1, 3, 2}};
+    const uint16_t tied[2] = {7, 7};
+    uint16_t levels[3] = {9, 3, 5};
+    tm_permuted answer = tm_read(levels, 3);
+    CHECK(answer.number == TM_DONE && same(answer.permutation, expected));
+    CHECK(refused(tm_read(tied, 2), TM_TIE) && refused(tm_read(levels, 1), TM_SIZE));
+    const uint16_t after_push[3] = {9, 3, 10};
+    CHECK(pushes(tm_push_level(levels, 3, 2), TM_DONE, 1) && memcmp(levels, after_push, sizeof levels) == 0);
+    CHECK(pushes(tm_push_level(levels, 3, 4), TM_VALUE, 0) && pushes(tm_push_level(levels, 1, 2), TM_SIZE, 0));
+    CHECK(memcmp(levels, after_push, sizeof levels) == 0);
+    uint16_t high[3] = {65530, 65528, 65529}, twins[2] = {7, 7};
+    const uint16_t standing[3] = {65530, 65528, 65529}, counted[3] = {65534, 65533, 65535};
+    CHECK(pushes(tm_count_up(high, 3, 6), TM_CEILING, 0) && memcmp(high, standing, sizeof high) == 0);
+    CHECK(pushes(tm_count_up(high, 3, 5), TM_DONE, 5) && memcmp(high, counted, sizeof high) == 0);
+    CHECK(pushes(tm_push_level(high, 3, 2), TM_CEILING, 0) && pushes(tm_count_up(high, 3, 0), TM_DONE, 0) && memcmp(high, counted, sizeof high) == 0);
+    CHECK(pushes(tm_push_level(twins, 2, 2), TM_TIE, 0) && pushes(tm_count_up(twins, 2, 1), TM_TIE, 0) && memcmp(twins, tied, sizeof twins) == 0);
+}
+
+static void check_rewriting(void) {
+    const tm_permutation target = {5, {5, 2, 1, 3, 4}}, other = {4, {1, 2, 3, 4}}, muddled = {5, {5, 5, 1, 3, 4}}, empty = {0, {0}};
+    uint16_t levels[5] = {14, 13, 12, 11, 10}, high[5] = {65534, 13, 12, 11, 10}, tied[5] = {14, 13, 12, 13, 10};
+    const uint16_t before[5] = {14, 13, 12, 11, 10}, after[5] = {14, 15, 12, 11, 16}, high_before[5] = {65534, 13, 12, 11, 10};
+    uint8_t list[6] = {90, 91, 92, 93, 94, 95};
+    const uint8_t list_before[6] = {90, 91, 92, 93, 94, 95}, list_after[6] = {2, 5, 92, 93, 94, 95};
+    CHECK(pushes(tm_rewrite(levels, 5, other, list, 6), TM_FIT, 0) && pushes(tm_rewrite(levels, 5, target, list, 3), TM_FIT, 0));
+    CHECK(pushes(tm_rewrite(levels, 5, muddled, list, 6), TM_MUDDLE, 0) && pushes(tm_rewrite(levels, 5, empty, list, 6), TM_SIZE, 0));
+    CHECK(pushes(tm_rewrite(tied, 5, target, list, 6), TM_TIE, 0) && pushes(tm_rewrite(high, 5, target, list, 6), TM_CEILING, 0));
+    CHECK(memcmp(list, list_before, sizeof list) == 0 && memcmp(levels, before, sizeof levels) == 0 && memcmp(high, high_before, sizeof high) == 0);
+    CHECK(pushes(tm_rewrite(levels, 5, target, list, 6), TM_DONE, 2));
+    CHECK(memcmp(list, list_after, sizeof list) == 0 && memcmp(levels, after, sizeof levels) == 0);
+    CHECK(pushes(tm_rewrite(levels, 5, target, list, 4), TM_DONE, 0) && memcmp(levels, after, sizeof levels) == 0);
+}
+
+static void check_symbols(void) {
+    uint16_t levels[4] = {4, 3, 2, 1}, high[4] = {65535, 3, 2, 1}, tied[4] = {4, 3, 4, 1};
+    const uint16_t after[4] = {4, 3, 5, 1}, high_before[4] = {65535, 3, 2, 1};
+    CHECK(pushes(tm_store(levels, 4, 12, 6), TM_DONE, 1) && memcmp(levels, after, sizeof levels) == 0);
+    tm_symbol symbol = tm_read_symbol(levels, 4, 12), idle = tm_read_symbol(levels, 4, 6), outside = tm_read_symbol(levels, 4, 25);
+    CHECK(symbol.number == TM_DONE && symbol.symbol == 6);
+    CHECK(idle.number == TM_IDLE && idle.symbol == 0 && outside.number == TM_VALUE && outside.symbol == 0);
+    CHECK(pushes(tm_store(levels, 4, 12, 12), TM_VALUE, 0) && memcmp(levels, after, sizeof levels) == 0);
+    CHECK(pushes(tm_store(high, 4, 12, 6), TM_CEILING, 0) && memcmp(high, high_before, sizeof high) == 0);
+    CHECK(pushes(tm_store(tied, 4, 12, 6), TM_TIE, 0) && tm_read_symbol(tied, 4, 12).number == TM_TIE && pushes(tm_store(levels, 1, 1, 0), TM_SIZE, 0));
+}
+
+static void check_sheet(void) {
+    const uint8_t sheet[] = {1, 3, 3, 0, 1, 0, 2, 0, 3, 0, 1, 0, 4, 0, 0, 0, 2, 0, 3, 1, 2, 3, 0, 3, 0, 0, 0, 0, 0, 0, 0, 3, 0, 0, 0, 0, 0, 0, 0};
+    const char expected[] = "c 1 0 4\nc 2 0 1\nc 3 5 0\ng 0 5 7 6 8\n", faulty[] = "s 8\n";
+    const size_t length = sizeof expected - 1;
+    uint8_t text[64], blank[64];
+    memset(text, 'x', sizeof text);
+    memset(blank, 'x', sizeof blank);
+    tm_printed printed = tm_bench(sheet, sizeof sheet, text, length - 1);
+    CHECK(printed.number == TM_FIT && printed.length == 0 && memcmp(text, blank, sizeof text) == 0);
+    printed = tm_bench(sheet, sizeof sheet, text, length);
+    CHECK(printed.number == TM_DONE && printed.length == length && memcmp(text, expected, length) == 0);
+    CHECK(memcmp(text + length, blank, sizeof text - length) == 0);
+    printed = tm_bench(sheet, sizeof sheet - 1, text, sizeof text);
+    CHECK(printed.number == TM_DONE && printed.length == 4 && memcmp(text, faulty, 4) == 0);
+}
+
+/* "with length 0 the address is not used and may be NULL" */
+static void check_null(void) {
+    const tm_permutation target = {2, {1, 2}};
+    uint16_t levels[2] = {0, 1};
+    uint8_t text[4];
+    CHECK(refused(tm_read(NULL, 0), TM_SIZE) && pushes(tm_push_level(NULL, 0, 2), TM_SIZE, 0) && pushes(tm_count_up(NULL, 0, 1), TM_SIZE, 0));
+    CHECK(pushes(tm_rewrite(NULL, 0, target, NULL, 0), TM_SIZE, 0) && pushes(tm_rewrite(levels, 2, target, NULL, 0), TM_FIT, 0));
+    CHECK(pushes(tm_store(NULL, 0, 1, 0), TM_SIZE, 0) && tm_read_symbol(NULL, 0, 1).number == TM_SIZE);
+    CHECK(tm_bench(NULL, 0, NULL, 0).number == TM_FIT);
+    CHECK(tm_bench(NULL, 0, text, sizeof text).length == 4 && memcmp(text, "s 8\n", 4) == 0);
+}
+
+int main(void) {
+    check_permutations();
+    check_levels();
+    check_rewriting();
+    check_symbols();
+    check_sheet();
+    check_null();
+    printf("%d passed, %d failed\n", passed, failed);
+    return failed != 0;
+}

@@ -1,0 +1,195 @@
+//! One comparing function per exported function: the raw answer, the `Result` and every lent list afterwards, each beside the model's.
+use crate::lent::{Entry, Lent};
+use std::fmt::Debug;
+use turretmedlar::{raw, Permutation, Reason};
+
+/// The comparisons of one test, counted by the reason's number.
+#[derive(Default)]
+pub struct Cross {
+    cases: [u64; 9],
+}
+
+impl Cross {
+    /// Ends a test: prints its number of cases, and holds that they met these numbers (0 is done) and no others.
+    pub fn met(self, numbers: &[usize]) {
+        let test = std::thread::current().name().unwrap_or_default().to_string();
+        let met: Vec<usize> = (0..9).filter(|&number| self.cases[number] > 0).collect();
+        let each: Vec<String> = met.iter().map(|&number| format!("{number}: {}", self.cases[number])).collect();
+        println!("{test}: {} cases, by number {}", self.cases.iter().sum::<u64>(), each.join(", "));
+        assert_eq!(met, numbers, "the numbers met in {test}");
+    }
+
+    fn agree<T>(&mut self, case: &dyn Debug, expected: Result<T, model::Reason>, raw: (u8, T), safe: Result<T, Reason>)
+    where
+        T: Default + PartialEq + Debug,
+    {
+        let safe = safe.map_err(|reason| reason as u8);
+        let expected = expected.map_err(|reason| reason as u8);
+        assert_eq!(safe, expected, "the result of {case:?}");
+        let whole = expected.map_or_else(|number| (number, T::default()), |value| (0, value));
+        assert_eq!(raw, whole, "the raw answer to {case:?}");
+        self.cases[usize::from(whole.0)] += 1;
+    }
+
+    /// Lends two lists to a job, first guarded, so that a write outside is told with its case, then exact. Gives the first list where the job is done.
+    fn lend<A: Entry, T: Default + PartialEq + Debug>(
+        &mut self,
+        case: &dyn Debug,
+        (first, second): (&[A], &[u8]),
+        model: impl Fn(&mut [A], &mut [u8]) -> Result<T, model::Reason>,
+        raw: impl Fn(&mut [A], &mut [u8]) -> (u8, T),
+        safe: impl Fn(&mut [A], &mut [u8]) -> Result<T, Reason>,
+    ) -> Option<Vec<A>> {
+        let (mut expected_first, mut expected_second) = (first.to_vec(), second.to_vec());
+        let expected = model(&mut expected_first, &mut expected_second);
+        let done = expected.is_ok();
+        assert!(done || (expected_first == first && expected_second == second), "the model changed a list in {case:?}");
+        let mut lent = (Lent::guarded(first), Lent::guarded(second));
+        let raw = raw(lent.0.list(), lent.1.list());
+        lent.0.check(&expected_first, case);
+        lent.1.check(&expected_second, case);
+        let mut lent = (Lent::exact(first), Lent::exact(second));
+        let safe = safe(lent.0.list(), lent.1.list());
+        lent.0.check(&expected_first, case);
+        lent.1.check(&expected_second, case);
+        self.agree(case, expected, raw, safe);
+        done.then_some(expected_first)
+    }
+
+    pub fn push(&mut self, record: Permutation, place: usize) {
+        let expected = model::push(&twin(record), place).map(of_model);
+        let safe = turretmedlar::push(record, place).map(of_library);
+        self.agree(&("push", record, place), expected, permuted(raw::push(record, place)), safe);
+    }
+
+    pub fn successor(&mut self, record: Permutation) {
+        let answer = raw::successor(record);
+        self.agree(&("successor", record), model::successor(&twin(record)), (answer.number, answer.place), turretmedlar::successor(record));
+    }
+
+    pub fn digits(&mut self, record: Permutation) {
+        let answer = raw::digits(record);
+        self.agree(&("digits", record), model::digits(&twin(record)), (answer.number, answer.row), turretmedlar::digits(record));
+    }
+
+    pub fn rank(&mut self, record: Permutation) {
+        let answer = raw::rank(record);
+        self.agree(&("rank", record), model::rank(&twin(record)), (answer.number, answer.rank), turretmedlar::rank(record));
+    }
+
+    pub fn unrank(&mut self, n: usize, rank: u64) {
+        let safe = turretmedlar::unrank(n, rank).map(of_library);
+        self.agree(&("unrank", n, rank), model::unrank(n, rank).map(of_model), permuted(raw::unrank(n, rank)), safe);
+    }
+
+    pub fn read(&mut self, levels: &[u16]) {
+        self.lend(
+            &("read", levels),
+            (levels, &[]),
+            |levels, _| model::read(levels).map(of_model),
+            |levels, _| permuted(raw::read(levels)),
+            |levels, _| turretmedlar::read(levels).map(of_library),
+        );
+    }
+
+    pub fn push_level(&mut self, levels: &[u16], place: usize) -> Option<Vec<u16>> {
+        self.lend(
+            &("push_level", levels, place),
+            (levels, &[]),
+            |levels, _| model::push_level(levels, place),
+            |levels, _| pushes(raw::push_level(levels, place)),
+            |levels, _| turretmedlar::push_level(levels, place),
+        )
+    }
+
+    pub fn count_up(&mut self, levels: &[u16], k: u32) -> Option<Vec<u16>> {
+        self.lend(
+            &("count_up", levels, k),
+            (levels, &[]),
+            |levels, _| model::count_up(levels, k),
+            |levels, _| pushes(raw::count_up(levels, k)),
+            |levels, _| turretmedlar::count_up(levels, k),
+        )
+    }
+
+    pub fn rewrite(&mut self, levels: &[u16], target: Permutation, list: &[u8]) -> Option<Vec<u16>> {
+        self.lend(
+            &("rewrite", levels, target, list),
+            (levels, list),
+            |levels, list| model::rewrite(levels, &twin(target), list),
+            |levels, list| pushes(raw::rewrite(levels, target, list)),
+            |levels, list| turretmedlar::rewrite(levels, target, list),
+        )
+    }
+
+    pub fn store(&mut self, levels: &[u16], m: u64, symbol: u64) -> Option<Vec<u16>> {
+        self.lend(
+            &("store", levels, m, symbol),
+            (levels, &[]),
+            |levels, _| model::store(levels, m, symbol),
+            |levels, _| pushes(raw::store(levels, m, symbol)),
+            |levels, _| turretmedlar::store(levels, m, symbol),
+        )
+    }
+
+    pub fn read_symbol(&mut self, levels: &[u16], m: u64) {
+        self.lend(
+            &("read_symbol", levels, m),
+            (levels, &[]),
+            |levels, _| model::read_symbol(levels, m),
+            |levels, _| symbol(raw::read_symbol(levels, m)),
+            |levels, _| turretmedlar::read_symbol(levels, m),
+        );
+    }
+
+    /// The sheet's text is the model's, found by the caller, who may lend many buffers. A faulty sheet counts by its own number.
+    pub fn bench(&mut self, sheet: &[u8], text: &[u8], buffer: &[u8]) {
+        let done = self.lend(
+            &("bench", sheet, String::from_utf8_lossy(text), buffer.len()),
+            (sheet, buffer),
+            |_, buffer| lay(text, buffer),
+            |sheet, buffer| printed(raw::bench(sheet, buffer)),
+            |sheet, buffer| turretmedlar::bench(sheet, buffer),
+        );
+        if done.is_some() && text[0] == b's' {
+            self.cases[0] -= 1;
+            self.cases[usize::from(text[2] - b'0')] += 1;
+        }
+    }
+}
+
+type Record = (usize, [u8; 20]);
+
+fn twin(record: Permutation) -> model::Permutation {
+    model::Permutation { n: record.n, cells: record.cells }
+}
+
+fn of_model(record: model::Permutation) -> Record {
+    (record.n, record.cells)
+}
+
+fn of_library(record: Permutation) -> Record {
+    (record.n, record.cells)
+}
+
+fn permuted(answer: raw::Permuted) -> (u8, Record) {
+    (answer.number, of_library(answer.permutation))
+}
+
+fn pushes(answer: raw::Pushes) -> (u8, u32) {
+    (answer.number, answer.pushes)
+}
+
+fn symbol(answer: raw::Symbol) -> (u8, u64) {
+    (answer.number, answer.symbol)
+}
+
+fn printed(answer: raw::Printed) -> (u8, usize) {
+    (answer.number, answer.length)
+}
+
+/// The whole text at the start of the buffer, or `Fit`.
+fn lay(text: &[u8], buffer: &mut [u8]) -> Result<usize, model::Reason> {
+    buffer.get_mut(..text.len()).ok_or(model::Reason::Fit)?.copy_from_slice(text);
+    Ok(text.len())
+}

@@ -1,0 +1,12 @@
+//! Support for differential tests: the exported functions beside the independent model of document 01.
+#![forbid(unsafe_code)]
+
+pub mod cases;
+mod cross;
+mod lent;
+mod random;
+pub mod sheet;
+
+pub use cross::Cross;
+pub use lent::{fill, Lent};
+pub use random::Random;

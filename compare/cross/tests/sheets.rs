@@ -1,0 +1,226 @@
+//! Whole bench sheets, good and damaged, with text buffers of every length.
+use cross::cases::pairs;
+use cross::sheet::{count_up, example, random_sheet, rewrite, sheet, store};
+use cross::{fill, Cross, Random};
+use std::path::Path;
+use turretmedlar::{SHEET_BYTES, TEXT_BYTES};
+
+/// Works through a sheet with a buffer a little longer than its text, which is given.
+fn work(cross: &mut Cross, sheet: &[u8]) -> Vec<u8> {
+    let text = model::bench(sheet);
+    cross.bench(sheet, &text, &fill(text.len() + 3));
+    text
+}
+
+/// Works through a sheet with a buffer of each of these lengths.
+fn work_in(cross: &mut Cross, sheet: &[u8], rooms: impl Fn(usize) -> Vec<usize>) {
+    let text = model::bench(sheet);
+    rooms(text.len()).into_iter().for_each(|room| cross.bench(sheet, &text, &fill(room)));
+}
+
+fn about(needed: usize) -> Vec<usize> {
+    vec![0, 1, needed - 1, needed, needed + 1, TEXT_BYTES, TEXT_BYTES + 7]
+}
+
+/// Small sheets with all three kinds, near the ceiling, so that no damage to them makes a long run.
+fn small_sheets() -> [Vec<u8>; 2] {
+    let groups = [vec![65_500, 65_501], vec![65_200, 65_100, 65_300, 4]];
+    let commands = [store(1, 24, 17), count_up(1, 30), rewrite(0, &[2, 1]), rewrite(1, &[3, 1, 4, 2]), count_up(0, 33), store(0, 2, 1)];
+    [example([65_400, 65_200, 65_333]), sheet(&groups, &commands)]
+}
+
+/// The longest sheet: 64 groups of 20 cells and 1,000 rewrites.
+fn longest(random: &mut Random) -> Vec<u8> {
+    let groups: Vec<Vec<u16>> = (0..64).map(|_| random.group(20)).collect();
+    let commands: Vec<Vec<u8>> = (0..1000).map(|command| rewrite(command % 64, &random.names(20))).collect();
+    sheet(&groups, &commands)
+}
+
+#[test]
+fn the_example_of_document_01() {
+    let mut cross = Cross::default();
+    let bytes = [1, 3, 3, 0, 1, 0, 2, 0, 3, 0, 1, 0, 4, 0, 0, 0, 2, 0, 3, 1, 2, 3, 0, 3, 0, 0, 0, 0, 0, 0, 0, 3, 0, 0, 0, 0, 0, 0, 0];
+    assert_eq!(example([3, 1, 2]), bytes);
+    assert_eq!(work(&mut cross, &bytes), b"c 1 0 4\nc 2 0 1\nc 3 5 0\ng 0 5 7 6 8\n");
+    cross.met(&[0]);
+}
+
+#[test]
+fn every_prefix_of_several_sheets() {
+    let (mut cross, mut random) = (Cross::default(), Random::seeded(401));
+    let others = [(1, 5), (3, 0), (5, 20), (64, 3)].map(|(groups, commands)| random_sheet(&mut random, groups, commands));
+    for sheet in small_sheets().iter().chain(&others) {
+        (0..=sheet.len()).for_each(|length| drop(work(&mut cross, &sheet[..length])));
+    }
+    cross.met(&[0, 8]);
+}
+
+#[test]
+fn each_byte_of_small_sheets_set_to_every_value() {
+    let mut cross = Cross::default();
+    for sheet in small_sheets() {
+        for (at, value) in pairs(sheet.len(), 256) {
+            let mut damaged = sheet.clone();
+            damaged[at] = value as u8;
+            work(&mut cross, &damaged);
+        }
+    }
+    cross.met(&[0, 1, 4, 8]);
+}
+
+#[test]
+fn a_byte_deleted_doubled_or_inserted_at_every_place() {
+    let (mut cross, mut random) = (Cross::default(), Random::seeded(402));
+    for sheet in small_sheets().iter().chain(&[random_sheet(&mut random, 4, 12)]) {
+        for at in 0..sheet.len() {
+            let (before, rest) = sheet.split_at(at);
+            work(&mut cross, &[before, &rest[1..]].concat());
+            for byte in [rest[0], 0, 1, 2, 3, 255, random.number() as u8] {
+                work(&mut cross, &[before, &[byte], rest].concat());
+            }
+        }
+    }
+    cross.met(&[1, 4, 8]);
+}
+
+#[test]
+fn bytes_after_the_last_command() {
+    let (mut cross, mut random) = (Cross::default(), Random::seeded(403));
+    for sheet in small_sheets().iter().chain(&[random_sheet(&mut random, 2, 0)]) {
+        for more in [0, 1, 2, 3, 20, 300, SHEET_BYTES - sheet.len(), SHEET_BYTES + 1 - sheet.len()] {
+            work(&mut cross, &[&sheet[..], &vec![0; more]].concat());
+            work(&mut cross, &[&sheet[..], &random.bytes(more, 256)].concat());
+        }
+        work(&mut cross, &[&sheet[..], &sheet[..]].concat());
+    }
+    cross.met(&[0, 8]);
+}
+
+#[test]
+fn random_sheets_without_fault() {
+    let (mut cross, mut random) = (Cross::default(), Random::seeded(404));
+    for (groups, commands) in [(1, 0), (64, 0), (1, 1000), (64, 1000)] {
+        work(&mut cross, &random_sheet(&mut random, groups, commands));
+    }
+    for most in (0..400).map(|round| [3, 20, 64][round % 3]) {
+        let (groups, commands) = (1 + random.index(most), random.index(2 * most));
+        work(&mut cross, &random_sheet(&mut random, groups, commands));
+    }
+    cross.met(&[0]);
+}
+
+#[test]
+fn random_sheets_damaged() {
+    let (mut cross, mut random) = (Cross::default(), Random::seeded(405));
+    for _ in 0..8000 {
+        let (groups, commands) = (1 + random.index(5), random.index(12));
+        let mut sheet = random_sheet(&mut random, groups, commands);
+        for _ in 0..=random.index(3) {
+            let at = random.index(sheet.len());
+            match random.index(5) {
+                0 => sheet[at] = random.number() as u8,
+                1 => sheet[at] = sheet[at].wrapping_add(random.pick(&[1, 255])),
+                2 => sheet.insert(at, random.number() as u8),
+                3 => sheet.truncate(at + 1),
+                _ => sheet.copy_within(at / 2..at, 0),
+            }
+        }
+        work(&mut cross, &sheet);
+    }
+    cross.met(&[0, 1, 4, 8]);
+}
+
+#[test]
+fn garbage_of_every_length() {
+    let (mut cross, mut random) = (Cross::default(), Random::seeded(406));
+    for length in (0..=200).flat_map(|length| [length; 20]) {
+        let bound = random.pick(&[2, 4, 22, 256]);
+        work(&mut cross, &random.bytes(length, bound));
+    }
+    cross.met(&[1, 4, 8]);
+}
+
+#[test]
+fn counts_and_group_numbers_about_their_ends() {
+    let mut cross = Cross::default();
+    for groups in (0_usize..=66).chain([128, 254]) {
+        let lists: Vec<Vec<u16>> = (0..groups as u16).map(|level| vec![level, 700]).collect();
+        for group in [0, groups / 2, groups.saturating_sub(1), groups, groups + 1, 255] {
+            work(&mut cross, &sheet(&lists, &[count_up(group, 1)]));
+        }
+    }
+    for commands in [0, 1, 255, 256, 257, 999, 1000, 1001, 1002, 1024, 65_535] {
+        work(&mut cross, &sheet(&[vec![5, 6]], &vec![count_up(0, 1); commands]));
+    }
+    cross.met(&[0, 8]);
+}
+
+#[test]
+fn sizes_and_ties_in_each_of_several_groups() {
+    let (mut cross, mut random) = (Cross::default(), Random::seeded(407));
+    for n in (0..=22).chain([128, 255]) {
+        for (one, other) in pairs(4, 4) {
+            let mut groups: Vec<Vec<u16>> = (0..4).map(|_| random.group(4)).collect();
+            groups[other][3] = groups[other][random.index(4)];
+            groups[one] = (0..n).collect();
+            work(&mut cross, &sheet(&groups, &[count_up(0, 1), vec![9]]));
+        }
+    }
+    cross.met(&[1, 4, 8]);
+}
+
+#[test]
+fn the_longest_sheet_and_longer_ones() {
+    let (mut cross, mut random) = (Cross::default(), Random::seeded(408));
+    let sheet = longest(&mut random);
+    assert_eq!(sheet.len(), SHEET_BYTES);
+    for more in [0, 1, 2, 100_000 - SHEET_BYTES] {
+        work_in(&mut cross, &[&sheet[..], &vec![0; more]].concat(), about);
+    }
+    work(&mut cross, &sheet[..SHEET_BYTES - 1]);
+    cross.met(&[0, 2, 8]);
+}
+
+/// Ranks of 19 digits, levels of five, and of pushes as many digits as the room allows: the 64 groups start at the bottom and are counted up.
+#[test]
+fn the_longest_text() {
+    let (mut cross, mut random) = (Cross::default(), Random::seeded(409));
+    let start = |group: u64| turretmedlar::unrank(20, 2_000_000_000_000_000_000 + group).expect("a rank");
+    let groups: Vec<Vec<u16>> = (0..64).map(|group| random.levels(&start(group).cells, 19)).collect();
+    let commands: Vec<Vec<u8>> = (0..1000).map(|command| count_up(command % 64, if command < 320 { 10_000 } else { 1000 })).collect();
+    let text = work(&mut cross, &sheet(&groups, &commands));
+    assert_eq!(text.len(), 22_483);
+    cross.met(&[0]);
+}
+
+#[test]
+fn the_sheets_of_the_repository() {
+    let mut cross = Cross::default();
+    let folder = Path::new(env!("CARGO_MANIFEST_DIR")).join("../../crates/sheets/data");
+    for entry in folder.read_dir().expect("the folder of sheets") {
+        let path = entry.expect("a sheet").path();
+        work(&mut cross, &std::fs::read(path).expect("the bytes of a sheet"));
+    }
+    cross.met(&[0, 1, 4, 8]);
+}
+
+#[test]
+fn text_buffers_of_every_length_for_small_texts() {
+    let (mut cross, mut random) = (Cross::default(), Random::seeded(410));
+    let others = [vec![], vec![1, 21], vec![1, 2, 7, 0, 7, 0], random_sheet(&mut random, 3, 5)];
+    for sheet in small_sheets().iter().chain(&others) {
+        work_in(&mut cross, sheet, |needed| (0..=needed + 3).collect());
+    }
+    cross.met(&[0, 1, 2, 4, 8]);
+}
+
+#[test]
+fn text_buffers_about_the_length_of_large_texts() {
+    let (mut cross, mut random) = (Cross::default(), Random::seeded(411));
+    let stores: Vec<Vec<u8>> = (0..1000).map(|command| store(command % 64, 380, random.below(381))).collect();
+    let groups: Vec<Vec<u16>> = (0..64).map(|_| random.group(20)).collect();
+    for sheet in [sheet(&groups, &stores), random_sheet(&mut random, 40, 300)] {
+        work_in(&mut cross, &sheet, about);
+    }
+    cross.met(&[0, 2]);
+}

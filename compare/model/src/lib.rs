@@ -1,0 +1,22 @@
+//! A model of document 01 in plain Rust: the other side of differential tests, and the plain side of benchmarks.
+//!
+//! It is written from the sentences of document 01 alone, with lists, sorting and searching, and keeps no table.
+//! Every input is legal. A refused job gives its reason and leaves all lent lists as they were.
+
+#![forbid(unsafe_code)]
+
+mod levels;
+mod permutations;
+mod reason;
+mod sheet;
+mod symbols;
+mod text;
+
+#[cfg(test)]
+mod tests;
+
+pub use levels::{count_up, push_level, read, rewrite};
+pub use permutations::{digits, push, rank, successor, unrank, Permutation};
+pub use reason::Reason;
+pub use symbols::{read_symbol, store};
+pub use text::bench;

@@ -1,0 +1,53 @@
+//! The bench program: the work of a sheet and its printed text.
+
+use crate::levels::{count_up, rewrite, sorted_names};
+use crate::permutations::rank_of_names;
+use crate::reason::Reason;
+use crate::sheet::{read_sheet, Job, Sheet};
+use crate::symbols::store;
+
+/// The whole printed text of a bench sheet. "A faulty sheet gives one line: s, number." "Only a sheet without fault starts work."
+pub fn bench(sheet: &[u8]) -> Vec<u8> {
+    let mut text = Vec::new();
+    match read_sheet(sheet) {
+        Ok(sheet) => work(&mut text, sheet),
+        Err(reason) => line(&mut text, b's', [reason as u64]),
+    }
+    text
+}
+
+/// "In decimal, fields parted by one space, a newline after every line"
+fn line(text: &mut Vec<u8>, mark: u8, numbers: impl IntoIterator<Item = u64>) {
+    text.push(mark);
+    for number in numbers {
+        text.push(b' ');
+        text.extend(number.to_string().bytes());
+    }
+    text.push(b'\n');
+}
+
+/// "Each command has: c, its place from 1, number, pushes done. Then each group has: g, group number, rank, levels by name."
+fn work(text: &mut Vec<u8>, sheet: Sheet) {
+    let Sheet { mut groups, commands } = sheet;
+    for (place, command) in (1..).zip(&commands) {
+        let (number, pushes) = match perform(&mut groups[command.group], &command.job) {
+            Ok(pushes) => (0, pushes),
+            Err(reason) => (reason as u64, 0),
+        };
+        line(text, b'c', [place, number, u64::from(pushes)]);
+    }
+    for (number, levels) in (0..).zip(&groups) {
+        let rank = rank_of_names(&sorted_names(levels));
+        let levels = levels.iter().map(|&level| u64::from(level));
+        line(text, b'g', [number, rank].into_iter().chain(levels));
+    }
+}
+
+/// "Each command is done or sent back by itself."
+fn perform(levels: &mut [u16], job: &Job) -> Result<u32, Reason> {
+    match *job {
+        Job::CountUp { k } => count_up(levels, k),
+        Job::Rewrite { ref target } => rewrite(levels, target, &mut [0; 20]),
+        Job::Store { m, symbol } => store(levels, m, symbol),
+    }
+}

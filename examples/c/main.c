@@ -1,0 +1,30 @@
+/* Counts run hours on one group of four cells and keeps a setting on another. */
+#include <inttypes.h>
+#include <stdio.h>
+
+#include "turretmedlar.h"
+
+static void show(const char *job, tm_pushes answer, const uint16_t *levels) {
+    printf("%s: number %u, pushes %" PRIu32 ", levels %u %u %u %u\n", job, answer.number, answer.pushes, levels[0], levels[1], levels[2], levels[3]);
+}
+
+int main(void) {
+    /* Levels by cell name. Cell 1 has the most charge, then cells 4, 2 and 3: the permutation of rank 0. */
+    uint16_t hours[4] = {3, 1, 0, 2};
+    show("count up by 10", tm_count_up(hours, 4, 10), hours);
+    tm_permuted standing = tm_read(hours, 4);
+    if (standing.number != TM_DONE) {
+        return 1;
+    }
+    printf("hours: rank %" PRIu64 "\n", tm_rank(standing.permutation).rank);
+
+    /* Refused: the highest level would pass 65,535. Nothing is changed. */
+    show("count up by 65,530", tm_count_up(hours, 4, 65530), hours);
+
+    /* Setting 6 of 12. */
+    uint16_t setting[4] = {3, 2, 1, 0};
+    show("store 6 of 12", tm_store(setting, 4, 12, 6), setting);
+    tm_symbol read = tm_read_symbol(setting, 4, 12);
+    printf("setting: number %u, symbol %" PRIu64 "\n", read.number, read.symbol);
+    return 0;
+}

@@ -1,0 +1,168 @@
+/* Turretmedlar: groups of 2 to 20 cells that store by order of charge.
+ *
+ * The functions of the static library target/staticlib/libffi.a, which `rt staticlib ffi` proves and builds for x86-64 Linux (System V calling convention; it
+ * needs memcpy, memmove and memset, and uses SSE registers). What each gives is proved, for every input value. "Document 01" is the scope paper whose terms
+ * the comments name.
+ *
+ * A group's charge is a list of 16-bit levels, entry by cell name: levels[0] is the level of cell 1. A permutation (document 01: an order) lists the names
+ * from the highest level to the lowest; place 1 is the top. A push raises one cell's level to the highest plus 1, so that the cell comes to place 1.
+ *
+ * Every answer starts with `number`. 0: the job is done. Any other number is the reason for which it is refused (enum tm_reason); then all other fields of
+ * the answer are 0, and every lent list keeps its values. Where several reasons hold, the lowest number is given. Each function names its reasons; no other
+ * can come from it.
+ *
+ * What the caller sees to, since no proof reaches into C:
+ * - an address that goes with a length has that many readable entries (writable ones where it is not const), aligned as their type asks; with length 0 the
+ *   address is not used and may be NULL;
+ * - two lists lent to one call do not overlap, and nobody else writes a lent list during the call, or reads one that the call may write;
+ * - the stack has room: 256 KiB for tm_bench, 4 KiB for any other function (docs/PERFORMANCE.md has what was measured).
+ * The functions use no heap and no variables of their own, so that calls on different lists can run at the same time. */
+#ifndef TURRETMEDLAR_H
+#define TURRETMEDLAR_H
+
+#include <stddef.h>
+#include <stdint.h>
+
+#ifdef __cplusplus
+extern "C" {
+#endif
+
+/* The most cells of a group, and the places of a record's row. */
+#define TM_CELLS 20
+/* The most bytes of a sheet without fault; a longer one is faulty. */
+#define TM_SHEET_BYTES 24627
+/* A buffer of so many bytes has room for the text of any sheet. */
+#define TM_TEXT_BYTES 31344
+
+/* Document 01, "Why a job is sent back". */
+enum tm_reason {
+    TM_DONE = 0,
+    TM_SIZE = 1,    /* size: n is below 2 or above 20, for the group first, then for a target */
+    TM_FIT = 2,     /* fit: a target's n differs from the group's, a push list has fewer than n - 1 bytes, or a text buffer is too short */
+    TM_MUDDLE = 3,  /* muddle: a record is no permutation */
+    TM_TIE = 4,     /* tie: two levels are equal */
+    TM_VALUE = 5,   /* value: a rank, place, m or symbol is outside its range */
+    TM_CEILING = 6, /* ceiling: the highest level plus the job's pushes exceeds 65,535 */
+    TM_IDLE = 7,    /* idle: the levels' prefix is that of none of the m symbols */
+    TM_SHEET = 8    /* sheet: the bench sheet is ill-formed; printed in a text, never an answer's number */
+};
+
+/* Document 01: an order. The first n places of `cells` hold each of 1 to n once, highest charge first; the places past n hold 0, and a record that has anything
+ * else there is muddle. Compare records by their fields: the structs have padding. */
+typedef struct tm_permutation {
+    size_t n;
+    uint8_t cells[TM_CELLS];
+} tm_permutation;
+
+typedef struct tm_permuted {
+    uint8_t number;
+    tm_permutation permutation;
+} tm_permuted;
+
+typedef struct tm_placed {
+    uint8_t number;
+    size_t place;
+} tm_placed;
+
+/* The n digits, b0 first, the last always 0; 0 past them. */
+typedef struct tm_digit_row {
+    uint8_t number;
+    uint8_t row[TM_CELLS];
+} tm_digit_row;
+
+typedef struct tm_ranked {
+    uint8_t number;
+    uint64_t rank;
+} tm_ranked;
+
+typedef struct tm_pushes {
+    uint8_t number;
+    uint32_t pushes;
+} tm_pushes;
+
+typedef struct tm_symbol {
+    uint8_t number;
+    uint64_t symbol;
+} tm_symbol;
+
+typedef struct tm_printed {
+    uint8_t number;
+    size_t length;
+} tm_printed;
+
+/* ---- permutations: records by value, so that nothing of the caller's changes ---- */
+
+/* The permutation after a push at `place`: the cell there moves to place 1, and those above it move down one.
+ * Refused: 1 size, n is not 2 to 20; 3 muddle, the record is no permutation; 5 value, `place` is not 2 to n. */
+tm_permuted tm_push(tm_permutation permutation, size_t place);
+
+/* The place, 2 to n, that the next step pushes: the step to the permutation whose rank is one higher, or from the last rank to rank 0.
+ * Refused: 1 size, n is not 2 to 20; 3 muddle, the record is no permutation. */
+tm_placed tm_successor(tm_permutation permutation);
+
+/* The digits of the rank: rank = b0 + n * (b1 + (n - 1) * (b2 + ...)).
+ * Refused: 1 size, n is not 2 to 20; 3 muddle, the record is no permutation. */
+tm_digit_row tm_digits(tm_permutation permutation);
+
+/* The rank, 0 to n! - 1: the least number of next steps that lead here from the permutation of rank 0.
+ * Refused: 1 size, n is not 2 to 20; 3 muddle, the record is no permutation. */
+tm_ranked tm_rank(tm_permutation permutation);
+
+/* The permutation of n cells whose rank is `rank`.
+ * Refused: 1 size, n is not 2 to 20; 5 value, `rank` is n! or more. */
+tm_permuted tm_unrank(size_t n, uint64_t rank);
+
+/* ---- charge levels: the group has n cells, levels[0] to levels[n - 1] ---- */
+
+/* The permutation of the levels, highest first.
+ * Refused: 1 size, n is not 2 to 20; 4 tie, two levels are equal.
+ * Unchanged: `levels`, always. */
+tm_permuted tm_read(const uint16_t *levels, size_t n);
+
+/* Pushes the cell at `place` of the levels' permutation: its level becomes the highest plus 1. Gives the number of pushes, 1.
+ * Refused: 1 size, n is not 2 to 20; 4 tie, two levels are equal; 5 value, `place` is not 2 to n; 6 ceiling, the highest level is 65,535.
+ * Unchanged: all other levels; refused, all levels. */
+tm_pushes tm_push_level(uint16_t *levels, size_t n, size_t place);
+
+/* Counts up by k: k next steps, each a push on the levels. Gives the number of pushes, k. With k = 0 nothing is pushed.
+ * Refused: 1 size, n is not 2 to 20; 4 tie, two levels are equal; 6 ceiling, the highest level plus k exceeds 65,535.
+ * Unchanged: the levels of cells that are not pushed; refused, all levels. A call is done in full or not at all. */
+tm_pushes tm_count_up(uint16_t *levels, size_t n, uint32_t k);
+
+/* Pushes the target's cells at places r, r - 1, ..., 1, in that sequence, so that the levels are then read as `target`; r, 0 to n - 1, is the fewest pushes
+ * that lead there. Gives r. The names of the cells pushed go to the first r bytes of `list`, in the sequence of the pushes; `list` has `room` bytes.
+ * Refused: 1 size, the group's n or the target's is not 2 to 20; 2 fit, the target's n is not the group's or `room` is below n - 1; 3 muddle, the target is no
+ * permutation; 4 tie, two levels are equal; 6 ceiling, the highest level plus r exceeds 65,535.
+ * Unchanged: the levels of cells that are not pushed, and the list's bytes after the first r; refused, all levels and the whole list. */
+tm_pushes tm_rewrite(uint16_t *levels, size_t n, tm_permutation target, uint8_t *list, size_t room);
+
+/* ---- symbols: a code of m symbols, 1 to n!, numbered 0 to m - 1, on a group of n cells ----
+ * Symbol s is the prefix number s, counted from 0 in lexicographic sequence, of length p: the first p names of a permutation, p the smallest number with
+ * n!/(n-p)! at least m. With m = 1, p is 0: nothing is pushed, and 0 is read. */
+
+/* Stores `symbol`: its prefix comes to the top, by pushing its cells from the last to the first; a cell already on top is passed over. Gives the number of pushes.
+ * Refused: 1 size, n is not 2 to 20; 4 tie, two levels are equal; 5 value, m is 0 or above n!, or `symbol` is m or more; 6 ceiling, the highest level plus the
+ * pushes exceeds 65,535.
+ * Unchanged: the levels of cells that are not pushed; refused, all levels. */
+tm_pushes tm_store(uint16_t *levels, size_t n, uint64_t m, uint64_t symbol);
+
+/* The symbol whose prefix leads the levels' permutation: after tm_store with the same m, the symbol stored.
+ * Refused: 1 size, n is not 2 to 20; 4 tie, two levels are equal; 5 value, m is 0 or above n!; 7 idle, the prefix that leads has number m or higher.
+ * Unchanged: `levels`, always. */
+tm_symbol tm_read_symbol(const uint16_t *levels, size_t n, uint64_t m);
+
+/* ---- the bench sheet ---- */
+
+/* Works through a bench sheet of `length` bytes and lays the whole printed text, as document 01 gives it, in the first bytes of `text`, which has `room` bytes.
+ * Gives the text's length; no 0 byte is put after it. A faulty sheet is done too: its text is one line, "s", a space, the number of the first fault met (1 size,
+ * 4 tie, 8 sheet) and a newline. Each command of a good sheet has its own number in its line: 0, 3 muddle, 5 value or 6 ceiling. README.md works an example
+ * byte by byte.
+ * Refused: 2 fit, the text has more than `room` bytes. With TM_TEXT_BYTES it is never refused.
+ * Unchanged: `sheet`, always, and the bytes of `text` after the text; refused, all of `text`. */
+tm_printed tm_bench(const uint8_t *sheet, size_t length, uint8_t *text, size_t room);
+
+#ifdef __cplusplus
+}
+#endif
+
+#endif
