@@ -1,11 +1,12 @@
 //! The list of benchmarks. No input is refused: `unwrap` holds this for both sides.
 use crate::pair::{pair, Pair};
-use crate::random::Random;
+use cross::cases::{factorial, record};
+use cross::Random;
 use std::path::Path;
 
 pub struct Benchmark {
     pub name: String,
-    /// A sheet has groups of several sizes.
+    /// None for a sheet.
     pub n: Option<usize>,
     /// How often a round goes over all inputs.
     pub passes: usize,
@@ -48,18 +49,21 @@ pub fn sheet(file: &str) -> Vec<u8> {
 }
 
 fn inputs<I>(count: usize, mut make: impl FnMut(&mut Random) -> I) -> Vec<I> {
-    let mut random = Random::new();
+    let mut random = Random::seeded(0);
     (0..count).map(|_| make(&mut random)).collect()
-}
-
-pub fn factorial(n: usize) -> u64 {
-    (1..=n as u64).product()
 }
 
 /// The same record for each side.
 fn records(random: &mut Random, n: usize) -> (turretmedlar::Permutation, model::Permutation) {
-    let cells = random.cells(n);
-    (turretmedlar::Permutation { n, cells }, model::Permutation { n, cells })
+    let ours = record(&random.names(n));
+    (ours, model::Permutation { n, cells: ours.cells })
+}
+
+/// Levels of n cells, so low that every count fits; 0 past n.
+pub fn levels(random: &mut Random, n: usize) -> [u16; 20] {
+    let mut row = [0; 20];
+    row[..n].copy_from_slice(&random.group_below(n, 5000));
+    row
 }
 
 fn rank(n: usize) -> Box<dyn Pair> {
@@ -80,7 +84,7 @@ fn unrank(n: usize) -> Box<dyn Pair> {
 
 fn read(n: usize) -> Box<dyn Pair> {
     pair(
-        inputs(INPUTS, |random| random.levels(n)),
+        inputs(INPUTS, |random| levels(random, n)),
         move |levels, cells| *cells = turretmedlar::read(&levels[..n]).unwrap().cells,
         move |levels, cells| *cells = model::read(&levels[..n]).unwrap().cells,
     )
@@ -89,7 +93,7 @@ fn read(n: usize) -> Box<dyn Pair> {
 fn read_symbol(n: usize) -> Box<dyn Pair> {
     let m = factorial(n);
     pair(
-        inputs(INPUTS, |random| random.levels(n)),
+        inputs(INPUTS, |random| levels(random, n)),
         move |levels, symbol| *symbol = turretmedlar::read_symbol(&levels[..n], m).unwrap(),
         move |levels, symbol| *symbol = model::read_symbol(&levels[..n], m).unwrap(),
     )
@@ -113,7 +117,7 @@ fn on_levels<X>(n: usize, job: impl Fn(&mut [u16], &X, &mut [u8]) -> u32) -> imp
 
 fn count_up(n: usize, k: u32, count: usize) -> Box<dyn Pair> {
     pair(
-        inputs(count, |random| (random.levels(n), k)),
+        inputs(count, |random| (levels(random, n), k)),
         on_levels(n, |levels, &k, _| turretmedlar::count_up(levels, k).unwrap()),
         on_levels(n, |levels, &k, _| model::count_up(levels, k).unwrap()),
     )
@@ -121,7 +125,7 @@ fn count_up(n: usize, k: u32, count: usize) -> Box<dyn Pair> {
 
 fn rewrite(n: usize) -> Box<dyn Pair> {
     pair(
-        inputs(INPUTS, |random| (random.levels(n), records(random, n))),
+        inputs(INPUTS, |random| (levels(random, n), records(random, n))),
         on_levels(n, |levels, (target, _), list| turretmedlar::rewrite(levels, *target, list).unwrap()),
         on_levels(n, |levels, (_, target), list| model::rewrite(levels, target, list).unwrap()),
     )
@@ -130,7 +134,7 @@ fn rewrite(n: usize) -> Box<dyn Pair> {
 fn store(n: usize) -> Box<dyn Pair> {
     let m = factorial(n);
     pair(
-        inputs(INPUTS, |random| (random.levels(n), random.below(m))),
+        inputs(INPUTS, |random| (levels(random, n), random.below(m))),
         on_levels(n, move |levels, &symbol, _| turretmedlar::store(levels, m, symbol).unwrap()),
         on_levels(n, move |levels, &symbol, _| model::store(levels, m, symbol).unwrap()),
     )

@@ -2,7 +2,6 @@
 mod benchmarks;
 mod counting;
 mod pair;
-mod random;
 mod stack;
 mod table;
 mod timing;

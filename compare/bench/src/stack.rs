@@ -1,6 +1,7 @@
 //! The least stack on which each job runs, by a thread of a process of its own: a stack that is too small ends it.
-use crate::benchmarks::{factorial, sheet};
-use crate::random::Random;
+use crate::benchmarks::{levels, sheet};
+use cross::cases::{factorial, record};
+use cross::Random;
 use std::process::{Command, Stdio};
 use std::thread::Builder;
 
@@ -10,21 +11,21 @@ pub const STACK: &str = "stack";
 const STEP: usize = 16;
 
 const JOBS: [(&str, fn()); 7] = [
-    ("rank", || done(turretmedlar::rank(record()))),
+    ("rank", || done(turretmedlar::rank(permutation()))),
     ("unrank", || done(turretmedlar::unrank(20, factorial(20) - 1))),
-    ("count_up by 60,000", || done(turretmedlar::count_up(&mut levels(), 60_000))),
-    ("rewrite", || done(turretmedlar::rewrite(&mut levels(), record(), &mut [0; 20]))),
-    ("store", || done(turretmedlar::store(&mut levels(), factorial(20), factorial(20) - 1))),
+    ("count_up by 60,000", || done(turretmedlar::count_up(&mut low(), 60_000))),
+    ("rewrite", || done(turretmedlar::rewrite(&mut low(), permutation(), &mut [0; 20]))),
+    ("store", || done(turretmedlar::store(&mut low(), factorial(20), factorial(20) - 1))),
     ("bench, 1,000 rewrites", || bench("longest")),
     ("bench, 1,000 stores", || bench("thousand-stores")),
 ];
 
-fn record() -> turretmedlar::Permutation {
-    turretmedlar::Permutation { n: 20, cells: Random::new().cells(20) }
+fn permutation() -> turretmedlar::Permutation {
+    record(&Random::seeded(0).names(20))
 }
 
-fn levels() -> [u16; 20] {
-    Random::new().levels(20)
+fn low() -> [u16; 20] {
+    levels(&mut Random::seeded(0), 20)
 }
 
 /// The sheet and the text are not on the stack.

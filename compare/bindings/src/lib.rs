@@ -134,6 +134,7 @@ pub fn count_up(levels: &mut [u16], k: u32) -> Result<u32, Reason> {
 }
 
 /// Makes the levels read as the target by the fewest pushes. Their names go to the start of the list, and their number is given.
+/// The list needs n - 1 bytes.
 /// Refused: Size, Fit, Muddle, Tie, Ceiling.
 pub fn rewrite(levels: &mut [u16], target: Permutation, list: &mut [u8]) -> Result<u32, Reason> {
     let answer = raw::rewrite(levels, target, list);

@@ -58,7 +58,7 @@ pub struct Symbol {
     pub symbol: u64,
 }
 
-/// What [`bench`] answers: the length of the text.
+/// What [`bench()`] answers: the length of the text.
 #[repr(C)]
 #[derive(Clone, Copy, Debug, PartialEq, Eq)]
 pub struct Printed {
