@@ -7,7 +7,7 @@ fn main() {
     if !target.starts_with("x86_64") || !target.contains("linux") {
         panic!("the library is built for x86-64 Linux, not for {target}");
     }
-    let library = Path::new(env!("CARGO_MANIFEST_DIR")).join("../../target/staticlib/libffi.a");
+    let library = Path::new(&env::var("CARGO_MANIFEST_DIR").expect("cargo sets CARGO_MANIFEST_DIR")).join("../../target/staticlib/libffi.a");
     println!("cargo:rerun-if-changed={}", library.display());
     let folder = env::var("OUT_DIR").expect("cargo sets OUT_DIR");
     if fs::copy(&library, Path::new(&folder).join("libturretmedlar.a")).is_err() {
