@@ -14,6 +14,9 @@ _Static_assert(sizeof(tm_pushes) == 8 && offsetof(tm_pushes, pushes) == 4, "tm_p
 _Static_assert(sizeof(tm_symbol) == 16 && offsetof(tm_symbol, symbol) == 8, "tm_symbol");
 _Static_assert(sizeof(tm_printed) == 16 && offsetof(tm_printed, length) == 8, "tm_printed");
 
+/* The constants of compare/bindings/src/lib.rs. */
+_Static_assert(TM_CELLS == 20 && TM_SHEET_BYTES == 24627 && TM_TEXT_BYTES == 31344 && TM_SHEET == 8, "constants");
+
 static int passed, failed;
 
 static void check(int holds, const char *what, int line) {
@@ -120,6 +123,9 @@ static void check_sheet(void) {
     printed = tm_bench(sheet, sizeof sheet, text, length);
     CHECK(printed.number == TM_DONE && printed.length == length && memcmp(text, expected, length) == 0);
     CHECK(memcmp(text + length, blank, sizeof text - length) == 0);
+    static uint8_t page[TM_TEXT_BYTES];
+    printed = tm_bench(sheet, sizeof sheet, page, sizeof page);
+    CHECK(printed.number == TM_DONE && printed.length == length && memcmp(page, expected, length) == 0);
     printed = tm_bench(sheet, sizeof sheet - 1, text, sizeof text);
     CHECK(printed.number == TM_DONE && printed.length == 4 && memcmp(text, faulty, 4) == 0);
 }

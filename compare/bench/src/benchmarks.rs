@@ -1,7 +1,7 @@
 //! The list of benchmarks. No input is refused: `unwrap` holds this for both sides.
 use crate::pair::{pair, Pair};
 use cross::cases::{factorial, record};
-use cross::Random;
+use cross::{twin, Random};
 use std::path::Path;
 
 pub struct Benchmark {
@@ -56,7 +56,7 @@ fn inputs<I>(count: usize, mut make: impl FnMut(&mut Random) -> I) -> Vec<I> {
 /// The same record for each side.
 fn records(random: &mut Random, n: usize) -> (turretmedlar::Permutation, model::Permutation) {
     let ours = record(&random.names(n));
-    (ours, model::Permutation { n, cells: ours.cells })
+    (ours, twin(ours))
 }
 
 /// Levels of n cells, so low that every count fits; 0 past n.

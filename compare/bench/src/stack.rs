@@ -1,4 +1,4 @@
-//! The least stack on which each job runs, by a thread of a process of its own: a stack that is too small ends it.
+//! The least stack on which some jobs run, by a thread of a process of its own: a stack that is too small ends it.
 use crate::benchmarks::{levels, sheet};
 use cross::cases::{factorial, record};
 use cross::Random;

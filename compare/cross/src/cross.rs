@@ -160,7 +160,8 @@ impl Cross {
 
 type Record = (usize, [u8; 20]);
 
-fn twin(record: Permutation) -> model::Permutation {
+/// The model's record.
+pub fn twin(record: Permutation) -> model::Permutation {
     model::Permutation { n: record.n, cells: record.cells }
 }
 

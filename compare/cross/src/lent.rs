@@ -6,7 +6,7 @@ use std::hint::black_box;
 const GUARDS: usize = 23;
 
 pub trait Entry: Copy + PartialEq + Debug {
-    /// A value that tells a guard from what a job would write there.
+    /// A value that a job would hardly write there.
     fn guard(index: usize) -> Self;
 }
 

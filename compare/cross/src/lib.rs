@@ -7,6 +7,6 @@ mod lent;
 mod random;
 pub mod sheet;
 
-pub use cross::Cross;
+pub use cross::{twin, Cross};
 pub use lent::{fill, Lent};
 pub use random::Random;

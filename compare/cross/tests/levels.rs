@@ -28,7 +28,7 @@ fn lists(values: &[u16], n: usize) -> Vec<Vec<u16>> {
 }
 
 #[test]
-fn lists_of_every_length() {
+fn lists_of_right_and_wrong_lengths() {
     let (mut cross, mut random) = (Cross::default(), Random::seeded(201));
     for length in (0..=25).chain([255, 256, 258, 1000, 65_536, 65_538, 70_000]) {
         let falling: Vec<u16> = (0..length).map(|cell| CEILING - cell as u16).collect();

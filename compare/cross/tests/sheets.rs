@@ -131,7 +131,7 @@ fn random_sheets_damaged() {
 }
 
 #[test]
-fn garbage_of_every_length() {
+fn garbage_of_every_length_to_200() {
     let (mut cross, mut random) = (Cross::default(), Random::seeded(406));
     for length in (0..=200).flat_map(|length| [length; 20]) {
         let bound = random.pick(&[2, 4, 22, 256]);
@@ -181,9 +181,9 @@ fn the_longest_sheet_and_longer_ones() {
     cross.met(&[0, 2, 8]);
 }
 
-/// Ranks of 19 digits, levels of five, and of pushes as many digits as the room allows: the 64 groups start at the bottom and are counted up.
+/// Ranks of 19 digits, levels of five, pushes of four and five: the 64 groups start at the bottom and are counted up.
 #[test]
-fn the_longest_text() {
+fn a_text_near_the_longest() {
     let (mut cross, mut random) = (Cross::default(), Random::seeded(409));
     let start = |group: u64| turretmedlar::unrank(20, 2_000_000_000_000_000_000 + group).expect("a rank");
     let groups: Vec<Vec<u16>> = (0..64).map(|group| random.levels(&start(group).cells, 19)).collect();

@@ -1,6 +1,6 @@
 //! Rewriting, and storing and reading a symbol.
 use cross::cases::{factorial, falling, pairs, permutations, record, scales, CEILING};
-use cross::{fill, Cross, Random};
+use cross::{fill, twin, Cross, Random};
 use turretmedlar::Permutation;
 
 /// Rewrites, and where that is done reads the target back.
@@ -88,8 +88,10 @@ fn targets_that_need_each_number_of_pushes() {
             let mut names = random.names(n);
             let top = CEILING - random.below(n as u64 + 1) as u16;
             let levels = random.levels(&names, top);
+            let mut low = random.levels(&names, 1000);
             names[..=r].rotate_left(1);
             names[..r].reverse();
+            assert_eq!(model::rewrite(&mut low, &twin(record(&names)), &mut [0; 20]), Ok(r as u32), "the pushes to {names:?}");
             rewrite(&mut cross, &levels, record(&names), n - 1);
         }
     }
@@ -99,7 +101,7 @@ fn targets_that_need_each_number_of_pushes() {
 /// One group and one target, good or not in each respect.
 fn rewrite_in_each_respect(cross: &mut Cross, random: &mut Random, n: usize, target: Permutation) {
     let names = random.names(n);
-    let tops = tops(&names, |low| model::rewrite(low, &model::Permutation { n: target.n, cells: target.cells }, &mut [0; 25]));
+    let tops = tops(&names, |low| model::rewrite(low, &twin(target), &mut [0; 25]));
     for room in [0, n.saturating_sub(2), n.saturating_sub(1), n, 25] {
         for target in [target, muddled(random, target)] {
             for (top, tie) in tops.into_iter().flat_map(|top| [(top, false), (top, true)]) {

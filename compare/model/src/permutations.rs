@@ -102,7 +102,7 @@ pub fn rank(permutation: &Permutation) -> Result<u64, Reason> {
     permutation.names().map(rank_of_names)
 }
 
-/// n!, for n up to 20: "20! fits 64 bits".
+/// n!, for n up to 20: "20! = 2,432,902,008,176,640,000 fits 64 bits."
 pub(crate) fn factorial(n: usize) -> u64 {
     (1..=n as u64).product()
 }

@@ -20,7 +20,7 @@ pub(crate) fn prefix_length(n: usize, m: u64) -> usize {
     p
 }
 
-/// "Symbol s is prefix number s of that length, counted from 0 in lexicographic sequence."
+/// "Symbol s, 0 to m - 1, is prefix number s of that length, counted from 0 in lexicographic sequence."
 pub(crate) fn prefix_of_symbol(n: usize, p: usize, symbol: u64) -> Vec<u8> {
     let mut indices = Vec::with_capacity(p);
     let mut rest = symbol;

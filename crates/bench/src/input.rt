@@ -1,4 +1,4 @@
-// Input up to its end or to a buffer's length. A failed read is told apart from the end, which the kit's `io::read_full` does not do.
+// Input up to its end or to a buffer's length. A failed read is told apart from the end, which Rattle's `io::read_full` does not do.
 ghost use mathlib.Core.Path.{_≡_};
 ghost use mathlib.Core.Bool.{true};
 ghost use Rattle.io.specs.Counts.{Counts};

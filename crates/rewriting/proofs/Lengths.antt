@@ -1,8 +1,7 @@
 -- The search for the prefix length of a code: what is left of it is the whole search, and the number of prefixes grows by a factor. Assumes nothing.
-use mathlib.Core.Path.{_≡_, sym, ap, _∙_}
+use mathlib.Core.Path.{_≡_, sym, _∙_}
 use mathlib.Core.Bool.{Bool}
-use Prim.Native.Nat.{ℕ, zero, suc, _+_, _-_, _*_, _/_, _^_, _≤_, _<_}
-use native.Mathlib.Nat.{mul-assoc}
+use Prim.Native.Nat.{ℕ, _+_, _-_, _*_, _/_, _^_, _≤_, _<_}
 use native.Mathlib.Numerals.{add-one}
 use native.Mathlib.Omega.{arith}
 use borrow.Author.Tests.{le-leb, lt-leb}
@@ -10,15 +9,8 @@ use lib.Dec.{leb}
 use Rattle.theory.specs.Factorial.{factorial, falling}
 use Rattle.theory.specs.Least.{leastFrom}
 use Rattle.theory.specs.Prefix.{prefixLength}
-use Rattle.theory.proofs.Factorials.{factorials, falling-quotient}
+use Rattle.theory.proofs.Factorials.{factorials, falling-more, falling-quotient}
 use Rattle.theory.proofs.Least.{leastFrom-here, leastFrom-next}
-
--- one factor more, the lowest
-falling-more : (n p : ℕ) → falling n (suc p) ≡ falling n p * (n - p)
-falling-more n zero = omega arith
-falling-more n (suc p) =
-    let less : n - 1 - p ≡ n - suc p = omega arith in
-    ap (λ (x : ℕ). n * x) (falling-more (n - 1) p ∙ rw less) ∙ sym (mul-assoc n (falling (n - 1) p) (n - suc p))
 
 -- are there at least m prefixes of length p?
 abbrev enough : ℕ → ℕ → ℕ → Bool
