@@ -30,8 +30,8 @@ def do_walk(steps, every, n, *names):
 
 
 JOBS = dict(rank=do_rank, digits=do_digits, successor=do_successor, push=do_push, run_steps=do_run_steps, unrank=do_unrank, read=do_read,
-            push_level=do_push_level, count_up=do_count_up, run_calls=do_run_calls, rewrite=do_rewrite, prefix=do_prefix, store=do_store,
-            read_symbol=do_read_symbol, symbols=do_symbols)
+            push_level=do_push_level, count_up=do_count_up, run_levels=do_run_levels, run_calls=do_run_calls, rewrite=do_rewrite, prefix=do_prefix,
+            store=do_store, read_symbol=do_read_symbol, symbols=do_symbols)
 
 
 def answer(line):
@@ -231,9 +231,20 @@ def check_document_001(lines):
         assert all(unrank(n, rank(order)) == order and rank(step(order)) == (rank(order) + 1) % factorial(n) for order in orders)
 
 
+def check_runs(lines):
+    # from levels without a gap, top less bottom is at most n after every step and no push raises a cell by more than n + 1; in a round each cell is pushed (n-1)! times
+    for n in range(2, 7):
+        for order in permutations(range(1, n + 1)) if n < 6 else [range(n, 0, -1), rank_zero(n)]:
+            number, k, widest, largest, r, _, *rest = do_run_levels(factorial(n), *gapless([*order]))
+            assert number == 0 and k == factorial(n) and widest <= n and largest <= n + 1 and r == rank([*order])
+            assert rest[:20] == row([factorial(n - 1)] * n) and read(rest[21:]) == [*order]
+    assert {"run_levels 24 of 4 2 1 3", "run_levels 120 of 5 4 3 2 1", "run_levels 720 of 1 6 3 4 5 2"} <= lines
+
+
 lines = Path(__file__).with_name("stdin").read_text().splitlines()
 check_document_01({*lines})
 check_document_001({*lines})
 check_symbols({*lines})
+check_runs({*lines})
 for line in lines:
     print(answer(line))

@@ -195,7 +195,7 @@ def do_run_steps(k, n, *names):
     for _ in range(0 if number else k):
         order = step(order)
         pushes[order[0] - 1] += 1
-    return [number, *record(order), "|", *pushes]
+    return [number, *record(order), "|", 0 if number else rank(order), "|", *pushes]
 
 
 def do_unrank(n, r):
@@ -223,6 +223,18 @@ def call(k, levels):
 def do_count_up(k, *levels):
     number, after = call(k, levels)
     return [number, 0 if number else k, "|", *after]
+
+
+def do_run_levels(k, *levels):
+    """k steps on levels: the pushes, the widest top less bottom after a step, the largest raise of a push, the rank at the end, each cell's pushes, the levels."""
+    number, pushes, widest, largest = call(k, levels)[0], row([]), 0, 0
+    for _ in range(0 if number else k):
+        after = push_level(levels, successor(read(levels)))
+        pushes[read(after)[0] - 1] += 1
+        widest = max(widest, max(after) - min(after))
+        largest = max(largest, max(new - old for new, old in zip(after, levels)))
+        levels = after
+    return [number, *([0] * 4 if number else [k, widest, largest, rank(read(levels))]), "|", *pushes, "|", *levels]
 
 
 def do_run_calls(room, calls, *lists):

@@ -1,15 +1,15 @@
--- One turn of a walk along levels: is a level among those ahead, is there a tie among them, and which is the highest of them? Assumes nothing.
-use mathlib.Core.Path.{_≡_, _∙_}
+-- One turn of a walk along levels: is a level among those ahead, is there a tie among them, and which is the highest or the lowest of them? Assumes nothing.
+use mathlib.Core.Path.{_≡_, refl, ap, _∙_}
 use mathlib.Core.Bool.{true, false}
-use mathlib.Core.List.{List, _∷_}
-use Prim.Native.Nat.{ℕ, _+_, _-_, _≤_, _<_}
+use mathlib.Core.List.{List, [], _∷_}
+use Prim.Native.Nat.{ℕ, _+_, _-_, _≤_, _<_, min}
 use native.Mathlib.Numerals.{add-one}
 use native.Mathlib.Omega.{arith}
 use borrow.Author.Tests.{eq-eqb, ne-eqb}
 use lib.ListN.{length, getD, drop, drop-of-length-le}
 use lib.Seq.{drop-cons}
 use Rattle.theory.specs.Lists.{member}
-use Rattle.theory.specs.Levels.{highest, tied}
+use Rattle.theory.specs.Levels.{highest, lowest, tied}
 
 module _ (L : List ℕ) (i : ℕ) (h : i < length L) where
   ahead : drop i L ≡ getD L i 0 ∷ drop (i + 1) L
@@ -35,13 +35,34 @@ module _ (L : List ℕ) {i : ℕ} (h : length L ≤ i) where
   pub tied-end : tied (drop i L) ≡ false
   tied-end = rw (drop-of-length-le L h)
 
--- the highest, from the last level to the first
-module _ (L : List ℕ) (i : ℕ) {t : ℕ} (pos : 0 < i) (h : i ≤ length L) (e : t ≡ highest (drop i L)) where
-  behind : drop (i - 1) L ≡ getD L (i - 1) 0 ∷ drop i L
-  behind = let q : i - 1 + 1 ≡ i = omega arith in ahead L (i - 1) (omega arith) ∙ rw q
+-- of no level, and of the last
+pub lowest-none : (L : List ℕ) → length L ≡ 0 → 0 ≡ lowest L
+lowest-none [] h = refl
+lowest-none (a ∷ L) h = absurd (omega arith)
 
-  pub highest-here : t < getD L (i - 1) 0 → getD L (i - 1) 0 ≡ highest (drop (i - 1) L)
-  highest-here l = rw behind (omega arith)
+pub lowest-last : (L : List ℕ) (i : ℕ) → i < length L → length L ≤ i + 1 → getD L i 0 ≡ lowest (drop i L)
+lowest-last L i h l = rw (ahead L i h, drop-of-length-le L l)
 
-  pub highest-next : getD L (i - 1) 0 ≤ t → t ≡ highest (drop (i - 1) L)
-  highest-next l = rw behind (omega arith)
+-- from the last level to the first
+module _ (L : List ℕ) (i : ℕ) (pos : 0 < i) where
+  behind : i ≤ length L → drop (i - 1) L ≡ getD L (i - 1) 0 ∷ drop i L
+  behind h = let q : i - 1 + 1 ≡ i = omega arith in ahead L (i - 1) (omega arith) ∙ rw q
+
+  -- the highest
+  module _ {t : ℕ} (h : i ≤ length L) (e : t ≡ highest (drop i L)) where
+    pub highest-here : t < getD L (i - 1) 0 → getD L (i - 1) 0 ≡ highest (drop (i - 1) L)
+    highest-here l = rw (behind h) (omega arith)
+
+    pub highest-next : getD L (i - 1) 0 ≤ t → t ≡ highest (drop (i - 1) L)
+    highest-next l = rw (behind h) (omega arith)
+
+  -- the lowest, where at least one level is ahead
+  module _ {t : ℕ} (h : i < length L) (e : t ≡ lowest (drop i L)) where
+    lower : lowest (drop (i - 1) L) ≡ min (getD L (i - 1) 0) t
+    lower = let q : t ≡ lowest (getD L i 0 ∷ drop (i + 1) L) = e ∙ ap lowest (ahead L i h) in rw (behind (omega arith), ahead L i h, q)
+
+    pub lowest-here : getD L (i - 1) 0 < t → getD L (i - 1) 0 ≡ lowest (drop (i - 1) L)
+    lowest-here l = omega (arith, lower)
+
+    pub lowest-next : t ≤ getD L (i - 1) 0 → t ≡ lowest (drop (i - 1) L)
+    lowest-next l = omega (arith, lower)

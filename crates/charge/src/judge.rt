@@ -1,4 +1,4 @@
-// What a job on levels is judged by, before its first push: size, tie, and the highest level.
+// What a job on levels is judged by, before its first push: size, tie, and the highest level. And the lowest, for runs.
 ghost use mathlib.Core.Path.{_≡_};
 ghost use Prim.Native.Nat.{_≤_};
 ghost use lib.ListN.{length, drop};
@@ -66,4 +66,22 @@ pub fn highest(levels: &[u16]) -> u16
         }
     }
     top
+}
+
+// For other crates too.
+pub fn lowest(levels: &[u16]) -> u16
+    ensures { λ r. ⌜ r ≡ meaning.lowest (now (levels .entry)) ⌝ }
+{
+    if levels.len() == 0 {
+        return 0;
+    }
+    let mut i = levels.len() - 1;
+    let mut bottom = levels[i];
+    while 0 < i {
+        i -= 1;
+        if levels[i] < bottom {
+            bottom = levels[i];
+        }
+    }
+    bottom
 }

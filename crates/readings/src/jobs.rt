@@ -37,5 +37,7 @@ pub fn ran(text: &mut Text, at: usize, permutation: Permutation, k: u64) -> usiz
     let mut to = number(text, at, answer.number);
     to = record(text, to, answer.permutation);
     to = mark(text, to, b'|');
+    to = field(text, to, answer.rank);
+    to = mark(text, to, b'|');
     counts(text, to, &pushes)
 }

@@ -4,6 +4,7 @@ use super::line::COUNT_UP;
 use super::line::PUSH_LEVEL;
 use super::line::READ;
 use super::line::READ_SYMBOL;
+use super::line::RUN_LEVELS;
 use super::line::STORE;
 use super::numbers::Numbers;
 use super::numbers::counts_from;
@@ -11,6 +12,7 @@ use super::numbers::levels_from;
 use super::numbers::narrow32;
 use super::text::Text;
 use super::text::bytes;
+use super::text::counts;
 use super::text::field;
 use super::text::levels;
 use super::text::mark;
@@ -23,7 +25,9 @@ use charge::read::read;
 use rewriting::answers::Symbol;
 use rewriting::read_symbol::read_symbol;
 use rewriting::store::store;
+use runs::answers::RanLevels;
 use runs::calls::run_calls;
+use runs::level_steps::run_levels;
 
 // The number, the pushes done, and the levels left.
 pub fn left(text: &mut Text, at: usize, answer: Pushes, list: &[u16]) -> usize {
@@ -38,6 +42,20 @@ pub fn left_bytes(text: &mut Text, at: usize, answer: Pushes, list: &[u16], lent
     let mut to = left(text, at, answer, list);
     to = mark(text, to, b'|');
     bytes(text, to, lent)
+}
+
+// The number, what the run met, how often each cell was pushed, and the levels left.
+fn ran_levels(text: &mut Text, at: usize, answer: RanLevels, list: &[u16]) -> usize {
+    let pushes = answer.counts;
+    let mut to = number(text, at, answer.number);
+    to = field(text, to, answer.pushes as u64);
+    to = field(text, to, answer.widest as u64);
+    to = field(text, to, answer.largest as u64);
+    to = field(text, to, answer.rank);
+    to = mark(text, to, b'|');
+    to = counts(text, to, &pushes);
+    to = mark(text, to, b'|');
+    levels(text, to, list)
 }
 
 pub fn decoded(text: &mut Text, at: usize, answer: Symbol) -> usize {
@@ -60,6 +78,10 @@ fn on_list(text: &mut Text, at: usize, job: u8, a: u64, b: u64, list: &mut [u16]
     }
     if job == READ_SYMBOL {
         return decoded(text, at, read_symbol(list, a));
+    }
+    if job == RUN_LEVELS {
+        let answer = run_levels(list, narrow32(a));
+        return ran_levels(text, at, answer, list);
     }
     let answer = pushes(job, a, b, list);
     left(text, at, answer, list)

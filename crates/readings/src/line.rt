@@ -46,15 +46,17 @@ pub const STORE: u8 = 11;
 
 pub const READ_SYMBOL: u8 = 12;
 
-const RUN_CALLS: u8 = 13;
+pub const RUN_LEVELS: u8 = 13;
 
-const REWRITE: u8 = 14;
+const RUN_CALLS: u8 = 14;
 
-const SYMBOLS: u8 = 15;
+const REWRITE: u8 = 15;
 
-const PREFIX: u8 = 16;
+const SYMBOLS: u8 = 16;
 
-const NO_JOB: u8 = 17;
+const PREFIX: u8 = 17;
+
+const NO_JOB: u8 = 18;
 
 fn job_of_p(second: u8, fifth: u8) -> u8 {
     if second == b'r' {
@@ -70,11 +72,19 @@ fn job_of_re(third: u8, fifth: u8) -> u8 {
     if fifth == b'_' { READ_SYMBOL } else { READ }
 }
 
+fn job_of_run(fifth: u8) -> u8 {
+    match fifth {
+        b's' => RUN_STEPS,
+        b'l' => RUN_LEVELS,
+        _ => RUN_CALLS,
+    }
+}
+
 fn job_of_r(second: u8, third: u8, fifth: u8) -> u8 {
     match second {
         b'a' => RANK,
         b'e' => job_of_re(third, fifth),
-        _ => if fifth == b's' { RUN_STEPS } else { RUN_CALLS },
+        _ => job_of_run(fifth),
     }
 }
 

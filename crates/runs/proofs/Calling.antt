@@ -112,8 +112,8 @@ module _ (L ks numbers₀ : List ℕ) where
       levels = d .levels L start ks;
       highest-level = d .highest-level L start ks;
       run =
-          run-of (length L) few (permutationOf L) (d .level-start L start) (stepsDone ks L) (permutationOf (afterCalls ks L)) _ (d .read L start ks)
-          (λ c low high. refl);
+          run-of (length L) few (permutationOf L) (d .level-start L start) (stepsDone ks L) (permutationOf (afterCalls ks L)) _ _ (d .read L start ks)
+          refl (λ c low high. refl);
       start = d .level-start L start;
       call-done = λ i h room.
           let done = d .call-done L start (take i ks) (getD ks i 0) room in
@@ -125,6 +125,7 @@ module _ (L ks numbers₀ : List ℕ) where
       top-then = λ i. d .highest-level L start (take i ks) ∙ ap (λ (j : ℕ). highest L + j) (so-far i);
       inside = λ i j.
           d .inside L start (take i ks) j ∙ ap (λ (s : ℕ). stepLevels (length L) (s + j) (permutationOf L) L) (so-far i);
+      gap-left = λ gapless. rw (d .levels L start ks) (d .gap L refl gapless (stepsDone ks L));
       gap = λ gapless k h. d .gap L refl gapless k;
       jumps = λ gapless k h. d .jumps L refl gapless k;
     })

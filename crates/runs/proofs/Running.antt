@@ -1,39 +1,39 @@
 -- A run of steps: what holds when some of them were done, and demand 3 of the whole. Assumes nothing.
-use mathlib.Core.Path.{_≡_, refl, sym, ap, ap₂, _∙_}
+use mathlib.Core.Path.{_≡_, sym, ap, ap₂, _∙_}
 use mathlib.Core.List.{List}
-use Prim.Native.Nat.{ℕ, zero, suc, _+_, _-_, _≤_}
+use Prim.Native.Nat.{ℕ, suc, _+_, _-_, _≤_}
 use native.Mathlib.Omega.{arith}
 use native.Mathlib.Numerals.{add-one}
 use borrow.Author.Tests.{ne-eqb}
 use lib.ListN.{length, getD, set, replicate}
 use Rattle.theory.specs.Permutation.{IsPermutation, row, top}
 use Rattle.theory.specs.Successor.{successor, step}
+use Rattle.theory.specs.Rank.{rank}
 use Rattle.theory.specs.Run.{steps, pushCount}
 use Rattle.theory.specs.Demand3.{Demand3}
 use Rattle.theory.proofs.Padding.{row-at}
-use Rattle.theory.proofs.Cases.{by-name}
-use Rattle.theory.proofs.Counts.{delta-eq, delta-ne}
-use Rattle.theory.proofs.Members.{entry-inside}
 use Rattle.theory.proofs.Stepping.{stepping}
 use Rattle.theory.proofs.Demand3.{demand3}
 use Rattle.permutation.specs.Records.{listOf, recordOf, faultOf}
-use Rattle.permutation.specs.Answers.{placed, pushed}
+use Rattle.permutation.specs.Answers.{placed, pushed, ranked}
 use Rattle.permutation.specs.declared.answers.Permutation.{Permutation}
 use Rattle.permutation.specs.declared.answers.Permuted.{Permuted}
 use Rattle.permutation.specs.declared.answers.Placed.{Placed}
+use Rattle.permutation.specs.declared.answers.Ranked.{Ranked}
 use Rattle.permutation.proofs.Records.{Sound}
-use Rattle.permutation.proofs.Answering.{placed-record, pushed-record, list-record}
+use Rattle.permutation.proofs.Answering.{placed-record, ranked-record, pushed-record, list-record}
 use Rattle.runs.specs.Steps.{pushCounts, ran, countIn, RunOf}
 use Rattle.runs.specs.declared.answers.Ran.{Ran}
-use Rattle.runs.proofs.Tallies.{tally-zero, tally-at, tally-set}
+use Rattle.runs.proofs.PushCounts.{Tallied, tallied, counts-none, counts-at}
 
 -- demand 3 of the list that k steps lead to
-pub run-of : (n : ℕ) → 2 ≤ n → (xs : List ℕ) → IsPermutation n xs → (k : ℕ) (ys : List ℕ) (counts : ℕ → ℕ)
-    → ys ≡ steps n k xs → ((c : ℕ) → 1 ≤ c → c ≤ n → counts c ≡ pushCount n c k xs) → RunOf n xs k ys counts
-run-of n few xs o k ys counts end count-of = record {
+pub run-of : (n : ℕ) → 2 ≤ n → (xs : List ℕ) → IsPermutation n xs → (k : ℕ) (ys : List ℕ) (r : ℕ) (counts : ℕ → ℕ)
+    → ys ≡ steps n k xs → r ≡ rank n ys → ((c : ℕ) → 1 ≤ c → c ≤ n → counts c ≡ pushCount n c k xs) → RunOf n xs k ys r counts
+run-of n few xs o k ys r counts end rank-of count-of = record {
   run = end;
   permutation = rw end (d .permutation xs o k);
-  ranks = rw end (d .ranks xs o k);
+  rank-now = rank-of;
+  ranks = rank-of ∙ rw end (d .ranks xs o k);
   different = λ i j less within below. d .different xs o i j less below;
   return = λ whole. end ∙ ap (λ (j : ℕ). steps n j xs) whole ∙ d .return xs o;
   pushes = count-of;
@@ -46,25 +46,10 @@ run-of n few xs o k ys counts end count-of = record {
     d : Demand3 n
     d = demand3 n few
 
--- a push count is at most the number of steps
-count-le : (n c k : ℕ) (xs : List ℕ) → pushCount n c k xs ≤ k
-unfolding pushCount
-count-le n c zero xs = omega arith
-count-le n c (suc k) xs = by-name (top (steps n (suc k) xs)) c
-    (λ e t. omega (arith, delta-eq (top (steps n (suc k) xs)) c e, count-le n c k xs))
-    (λ ne t. omega (arith, delta-ne (top (steps n (suc k) xs)) c ne, count-le n c k xs))
-
 -- `done` steps of the run from p lead to this record, with these counts
 pub record Running (p : Permutation) (done : ℕ) (current : Permutation) (counts : List ℕ) : Type 0 where
   pub at : current ≡ recordOf (steps (p .n) done (listOf p))
   pub counted : counts ≡ row (pushCounts (p .n) done (listOf p))
-
--- one step more pushed this cell and led to this record
-pub record Turn (p : Permutation) (done : ℕ) (counts : List ℕ) (pushed-cell : ℕ) (current : Permutation) : Type 0 where
-  pub low : 1 ≤ pushed-cell
-  pub high : pushed-cell ≤ 20
-  pub fits : getD counts (pushed-cell - 1) 0 ≤ done
-  pub more : Running p (done + 1) current (set counts (pushed-cell - 1) (getD counts (pushed-cell - 1) 0 + 1))
 
 module _ (p : Permutation) (s : Sound p) where
   abbrev after : ℕ → List ℕ
@@ -77,8 +62,8 @@ module _ (p : Permutation) (s : Sound p) where
   long k = orders k .long
 
   pub running-none : Running p 0 p (replicate 20 0)
-  unfolding steps pushCount
-  running-none = record { at = s .is; counted = tally-zero (p .n) (s .many) (λ c. pushCount (p .n) c 0 (listOf p)) (λ c. refl) }
+  unfolding steps
+  running-none = record { at = s .is; counted = counts-none (p .n) (s .few) (s .many) (listOf p) }
 
   module _ (done : ℕ) (current : Permutation) (counts : List ℕ) (v : Running p done current counts) where
     next : placed current ≡ record { number = 0; place = successor (p .n) (after done) }
@@ -103,51 +88,35 @@ module _ (p : Permutation) (s : Sound p) where
         cell : getD (current′ .cells) 0 0 ≡ top (after (suc done))
         cell = ap (λ (c : Permutation). getD (c .cells) 0 0) at′ ∙ row-at (after (suc done)) 0 (let few = s .few in omega (arith, long (suc done)))
 
+        -- the cell that came to place 1 is counted
         module _ (pushed-cell : ℕ) (is : pushed-cell ≡ getD (current′ .cells) 0 0) where
-          cell-is : pushed-cell ≡ top (after (suc done))
-          cell-is = is ∙ cell
+          pub step-tallied : Tallied (p .n) (listOf p) done counts pushed-cell
+          step-tallied = tallied (p .n) (s .few) (s .many) (listOf p) done counts (v .counted) (s .permutation) pushed-cell (is ∙ cell)
 
-          inside : (1 ≤ pushed-cell) × (pushed-cell ≤ p .n)
-          inside = let few = s .few in rw cell-is (entry-inside (orders (suc done)) 0 (omega (arith, long (suc done))))
+          pub running-more : Running p (done + 1) current′ (set counts (pushed-cell - 1) (getD counts (pushed-cell - 1) 0 + 1))
+          running-more = rw (add-one done) (record { at = at′; counted = step-tallied .counted })
 
-          count-is : getD counts (pushed-cell - 1) 0 ≡ pushCount (p .n) pushed-cell done (listOf p)
-          count-is = rw (v .counted) (tally-at (p .n) (s .many) (λ c. pushCount (p .n) c done (listOf p)) _ (inside .0) (inside .1))
+  -- ---- all k steps were done, and the rank is that of the record
+  module _ (k : ℕ) (current : Permutation) (counts : List ℕ) (v : Running p k current counts) (r : ℕ) (is : r ≡ ranked current .rank) where
+    rank-is : r ≡ rank (p .n) (after k)
+    rank-is =
+        is ∙ ap (λ (c : Permutation). ranked c .rank) (v .at)
+        ∙ ap (λ (a : Ranked). a .rank) (ranked-record (p .n) (after k) (s .few) (s .many) (orders k))
 
-          counted′ : set counts (pushed-cell - 1) (getD counts (pushed-cell - 1) 0 + 1) ≡ row (pushCounts (p .n) (suc done) (listOf p))
-          unfolding pushCount
-          counted′ =
-              ap (λ (l : List ℕ). set l (pushed-cell - 1) (getD counts (pushed-cell - 1) 0 + 1)) (v .counted)
-              ∙ tally-set (p .n) (s .many) (λ c. pushCount (p .n) c done (listOf p)) (λ c. pushCount (p .n) c (suc done) (listOf p)) pushed-cell _
-              (inside .0) (inside .1) raised kept
-            where
-              raised : getD counts (pushed-cell - 1) 0 + 1 ≡ pushCount (p .n) pushed-cell (suc done) (listOf p)
-              raised = omega (arith, count-is, delta-eq (top (after (suc done))) pushed-cell (sym cell-is))
+    end : listOf current ≡ after k
+    end = ap listOf (v .at) ∙ list-record (p .n) (after k) (s .few) (s .many) (orders k)
 
-              kept : (d : ℕ) → (d ≡ pushed-cell → ⊥) → pushCount (p .n) d done (listOf p) ≡ pushCount (p .n) d (suc done) (listOf p)
-              kept d ne = omega (arith, delta-ne (top (after (suc done))) d (λ z. ne (sym (cell-is ∙ z))))
-
-          pub turn : Turn p done counts pushed-cell current′
-          turn = record {
-            low = inside .0;
-            high = omega (arith, inside .1, s .many);
-            fits = rw count-is (count-le (p .n) _ done (listOf p));
-            more = rw (add-one done) (record { at = at′; counted = counted′ });
-          }
-
-  -- ---- all k steps were done
-  module _ (k : ℕ) (current : Permutation) (counts : List ℕ) (v : Running p k current counts) where
-    pub ran-done : _≡_ {A = Ran} (record { number = 0; permutation = current; counts = counts }) (ran p k)
+    pub ran-done : _≡_ {A = Ran} (record { number = 0; permutation = current; rank = r; counts = counts }) (ran p k)
     unfolding ran
-    ran-done = rw (s .fault, v .at, v .counted)
+    ran-done = rw (s .fault, v .at, rank-is, v .counted)
 
-    pub run-record : RunOf (p .n) (listOf p) k (listOf current) (countIn counts)
+    pub run-record : RunOf (p .n) (listOf p) k (listOf current) r (countIn counts)
     run-record =
-        run-of (p .n) (s .few) (listOf p) (s .permutation) k (listOf current) (countIn counts)
-        (ap listOf (v .at) ∙ list-record (p .n) (after k) (s .few) (s .many) (orders k))
-        (λ c low high. rw (v .counted) (tally-at (p .n) (s .many) (λ c. pushCount (p .n) c k (listOf p)) c low high))
+        run-of (p .n) (s .few) (listOf p) (s .permutation) k (listOf current) r (countIn counts)
+        end (rank-is ∙ ap (rank (p .n)) (sym end)) (counts-at (p .n) (s .few) (s .many) (listOf p) k counts (v .counted))
 
 -- a record that is no permutation's
 pub ran-refused : (p : Permutation) (k number : ℕ) → number ≡ faultOf p → (number ≡ 0 → ⊥)
-    → _≡_ {A = Ran} (record { number = number; permutation = record { n = 0; cells = replicate 20 0 }; counts = replicate 20 0 }) (ran p k)
+    → _≡_ {A = Ran} (record { number = number; permutation = record { n = 0; cells = replicate 20 0 }; rank = 0; counts = replicate 20 0 }) (ran p k)
 unfolding ran
 ran-refused p k number e h = rw (← e, ne-eqb number 0 h)

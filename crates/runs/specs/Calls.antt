@@ -2,12 +2,13 @@
 use mathlib.Core.Path.{_≡_}
 use mathlib.Core.Bool.{cond}
 use mathlib.Core.List.{List, [], _∷_, _++_}
-use Prim.Native.Nat.{ℕ, suc, _+_, _-_, _≤_, _<_}
+use Prim.Native.Nat.{ℕ, suc, _+_, _≤_, _<_}
 use lib.Dec.{eqb, leb}
 use lib.ListN.{length, getD, take, drop}
 use Rattle.theory.specs.Reasons.{done, fit}
 use Rattle.theory.specs.Permutation.{IsPermutation, top}
-use Rattle.theory.specs.Levels.{highest, lowest, Gapless, permutationOf, jump}
+use Rattle.theory.specs.Rank.{rank}
+use Rattle.theory.specs.Levels.{highest, Gapless, permutationOf, jump}
 use Rattle.theory.specs.CountUp.{countUp, callLevels}
 use Rattle.theory.specs.Run.{steps, pushCount, stepLevels, afterCalls, callNumbers, stepsDone}
 use Rattle.theory.specs.Demand3.{Done, Refused}
@@ -15,6 +16,7 @@ use Rattle.permutation.specs.Answers.{given}
 use Rattle.charge.specs.Answers.{pushesOf}
 use Rattle.charge.specs.declared.answers.Pushes.{Pushes}
 use Rattle.runs.specs.Steps.{RunOf}
+use Rattle.runs.specs.LevelSteps.{topLessBottom}
 
 -- done, whatever numbers the calls get, where there is a place for each of those numbers; otherwise fit, before anything else is judged
 abbrev pub callsNumber : List ℕ → List ℕ → ℕ
@@ -45,9 +47,12 @@ pub record CallsOf (L ks L′ numbers : List ℕ) (K : ℕ) : Type 0 where
   -- "the levels are those that K steps from the start's order leave [..]; the top is the start's plus K"
   pub levels : L′ ≡ stepLevels (length L) K (permutationOf L) L
   pub highest-level : highest L′ ≡ highest L + K
-  -- "what demand 3 says of orders, ranks and push counts holds of the levels with K for k". No push counts are returned: those of the K steps stand here
+  -- "what demand 3 says of orders, ranks and push counts holds of the levels with K for k". No rank and no push counts are returned: the rank read from L′
+  -- and the counts of the K steps stand here
   pub start : IsPermutation (length L) (permutationOf L)
-  pub run : RunOf (length L) (permutationOf L) K (permutationOf L′) (λ c. pushCount (length L) c K (permutationOf L))
+  pub run :
+      RunOf (length L) (permutationOf L) K (permutationOf L′) (rank (length L) (permutationOf L′))
+      (λ c. pushCount (length L) c K (permutationOf L))
   -- call i is "done, with number 0 and k pushes, exactly when the top standing then plus k is at most 65,535. Otherwise it gives number 6 and 0 pushes,
   -- and the list stays as it was"
   pub call-done :
@@ -62,10 +67,12 @@ pub record CallsOf (L ks L′ numbers : List ℕ) (K : ℕ) : Type 0 where
   -- inside a call too, the levels are those of the steps done so far
   pub inside :
       (i j : ℕ) → countUp j (afterCalls (take i ks) L) ≡ stepLevels (length L) (sumDone (take i ks) numbers + j) (permutationOf L) L
+  -- from levels without a gap, top less bottom of the levels left is at most n
+  pub gap-left : Gapless L → topLessBottom L′ ≤ length L
   -- "The bounds on gaps and jumps speak of every one of the K steps"
   pub gap :
       Gapless L → (k : ℕ) → k ≤ K
-      → highest (stepLevels (length L) k (permutationOf L) L) - lowest (stepLevels (length L) k (permutationOf L) L) ≤ length L
+      → topLessBottom (stepLevels (length L) k (permutationOf L) L) ≤ length L
   pub jumps :
       Gapless L → (k : ℕ) → k < K
       → jump (top (steps (length L) (suc k) (permutationOf L))) (stepLevels (length L) k (permutationOf L) L) ≤ length L + 1

@@ -1,3 +1,4 @@
 -- The meanings that the contracts cite.
 pub mod Steps
+pub mod LevelSteps
 pub mod Calls

@@ -22,6 +22,7 @@ unfoldable pub ran : Permutation → ℕ → Ran
 ran p k = record {
   number = faultOf p;
   permutation = recordOf (given (faultOf p) (steps (p .n) k (listOf p)) []);
+  rank = given (faultOf p) (rank (p .n) (steps (p .n) k (listOf p))) 0;
   counts = row (given (faultOf p) (pushCounts (p .n) k (listOf p)) []);
 }
 
@@ -29,12 +30,13 @@ ran p k = record {
 abbrev pub countIn : List ℕ → ℕ → ℕ
 countIn counts c = getD counts (c - 1) 0
 
--- demand 3 on permutations, of n cells and a run of k steps that led from xs to ys with these push counts. It renders the clauses of theory's `Demand3`
--- that speak of permutations: of ys and the counts, and of the way there in `different`, `round` and `even`
-pub record RunOf (n : ℕ) (xs : List ℕ) (k : ℕ) (ys : List ℕ) (counts : ℕ → ℕ) : Type 0 where
+-- demand 3 on permutations, of n cells and a run of k steps that led from xs to ys, of rank r, with these push counts. It renders the clauses of theory's
+-- `Demand3` that speak of permutations: of ys, r and the counts, and of the way there in `different`, `round` and `even`
+pub record RunOf (n : ℕ) (xs : List ℕ) (k : ℕ) (ys : List ℕ) (r : ℕ) (counts : ℕ → ℕ) : Type 0 where
   pub run : ys ≡ steps n k xs
   pub permutation : IsPermutation n ys
-  pub ranks : rank n ys ≡ (rank n xs + k) % factorial n
+  pub rank-now : r ≡ rank n ys
+  pub ranks : r ≡ (rank n xs + k) % factorial n
   pub different : (i j : ℕ) → i < j → j ≤ k → j < factorial n → steps n i xs ≡ steps n j xs → ⊥
   pub return : k ≡ factorial n → ys ≡ xs
   pub pushes : (c : ℕ) → 1 ≤ c → c ≤ n → counts c ≡ pushCount n c k xs

@@ -6,12 +6,13 @@ use super::answers::Ran;
 use permutation::answers::Permutation;
 use permutation::cell::wide;
 use permutation::push::push;
+use permutation::rank::rank;
 use permutation::successor::successor;
 
-// The second clause is demand 3 on permutations: the run from any permutation, for every k.
+// The rank is worked out from the record that the run ends with. The second clause is demand 3 on permutations: the run from any permutation, for every k.
 pub fn run_steps(permutation: Permutation, k: u64) -> Ran
     ensures { λ r. ⌜ r ≡ ran permutation k ⌝ }
-    ensures { λ r. ⌜ (r .number ≡ 0 → RunOf (permutation .n) (listOf permutation) k (listOf (r .permutation)) (countIn (r .counts))) ⌝ }
+    ensures { λ r. ⌜ (r .number ≡ 0 → RunOf (permutation .n) (listOf permutation) k (listOf (r .permutation)) (r .rank) (countIn (r .counts))) ⌝ }
 {
     // a run of no steps judges its record too
     let number = successor(permutation).number;
@@ -21,6 +22,7 @@ pub fn run_steps(permutation: Permutation, k: u64) -> Ran
         return Ran {
             number,
             permutation: Permutation { n: 0, cells },
+            rank: 0,
             counts,
         };
     }
@@ -38,6 +40,7 @@ pub fn run_steps(permutation: Permutation, k: u64) -> Ran
     Ran {
         number: 0,
         permutation: current,
+        rank: rank(current).rank,
         counts,
     }
 }

@@ -59,7 +59,7 @@ number-at (k ∷ ks) L zero h = refl
 number-at (k ∷ ks) L (suc i) h = number-at ks (callLevels k L) i (omega arith)
 
 -- ---- the steps done fit: the highest level bounds them
-granted : (k : ℕ) (L : List ℕ) → callNumber k L ≡ 0 → (2 ≤ length L) × (length L ≤ 20) × (tied L ≡ false) × (highest L + k ≤ 65535)
+pub granted : (k : ℕ) (L : List ℕ) → callNumber k L ≡ 0 → (2 ≤ length L) × (length L ≤ 20) × (tied L ≡ false) × (highest L + k ≤ 65535)
 granted k L e =
     by-le 2 (length L)
     (λ few. by-le (length L) 20

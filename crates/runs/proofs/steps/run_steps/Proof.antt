@@ -2,12 +2,14 @@
 use mathlib.Core.Path.{_≡_, sym, ap, subst, _∙_}
 use Prim.Native.Nat.{ℕ, _-_, _≤_}
 use native.Mathlib.Omega.{arith}
-use Rattle.permutation.specs.Records.{faultOf}
+use Rattle.permutation.specs.Records.{listOf, faultOf}
 use Rattle.permutation.specs.Answers.{placed}
 use Rattle.permutation.specs.declared.answers.Permuted.{Permuted}
 use Rattle.permutation.specs.declared.answers.Placed.{Placed}
+use Rattle.permutation.specs.declared.answers.Ranked.{Ranked}
 use Rattle.permutation.proofs.Records.{Sound, sound}
-use Rattle.runs.proofs.Running.{Running, running-none, Turn, turn, ran-done, run-record, ran-refused}
+use Rattle.runs.proofs.PushCounts.{Tallied}
+use Rattle.runs.proofs.Running.{Running, running-none, step-tallied, running-more, ran-done, run-record, ran-refused}
 use borrow.Author.Needs.{needs}
 use Rattle.runs.proofs.steps.run_steps.Statement.{statement}
 use Rattle.runs.proofs.steps.run_steps.Tie as tie
@@ -50,27 +52,34 @@ wide-requires : tie.Need-wide-requires Inv-loop μ-loop
 wide-requires c κs = search needs
 
 -- the step that a turn does
-stepped : (c : tie.After-wide Inv-loop μ-loop)
+counted : (c : tie.After-wide Inv-loop μ-loop)
     → let at = c .before .before .before .before .before .before in
-    Turn (at .before .before .before .args .permutation) (at .loop .done) (at .loop .counts) (c .wide .result) (c .before .before .before .push .result .permutation)
-stepped c =
+    let p = at .before .before .before .args .permutation in
+    Tallied (p .n) (listOf p) (at .loop .done) (at .loop .counts) (c .wide .result)
+counted c =
     let at = c .before .before .before .before .before .before in
     let p = at .before .before .before .args .permutation in
-    turn p (at .loop .inv .1) (at .loop .done) (at .loop .current) (at .loop .counts) (at .loop .inv .2) _
+    step-tallied p (at .loop .inv .1) (at .loop .done) (at .loop .current) (at .loop .counts) (at .loop .inv .2) _
     (ap (λ (a : Placed). a .place) (c .before .before .before .before .successor2 .ensures)) _
     (ap (λ (a : Permuted). a .permutation) (c .before .before .before .push .ensures)) _ (c .wide .ensures)
 
+in-row : (c : tie.After-wide Inv-loop μ-loop) → (1 ≤ c .wide .result) × (c .wide .result ≤ 20)
+in-row c =
+    let at = c .before .before .before .before .before .before in
+    let t = counted c in
+    (t .low, omega (arith, t .high, at .loop .inv .1 .many))
+
 sub-counts : tie.Need-sub-counts Inv-loop μ-loop
-sub-counts c = stepped c .low
+sub-counts c = in-row c .0
 
 mul-counts : tie.Need-mul-counts Inv-loop μ-loop
-mul-counts c = let t = stepped c in omega (arith, t .high)
+mul-counts c = omega (arith, in-row c .1)
 
 array-read-counts : tie.Need-array-read-counts Inv-loop μ-loop
-array-read-counts c = let t = stepped c in omega (arith, t .low, t .high)
+array-read-counts c = let t = in-row c in omega arith
 
 add-counts : tie.Need-add-counts Inv-loop μ-loop
-add-counts c = let t = stepped c in omega (arith, t .fits)
+add-counts c = let t = counted c in omega (arith, t .fits)
 
 array-write-counts : tie.Need-array-write-counts Inv-loop μ-loop
 array-write-counts c = array-read-counts c
@@ -84,16 +93,26 @@ loop-less c = search needs
 loop-again : tie.Need-loop-again Inv-loop μ-loop
 loop-again c =
     let at = c .before .before .before .before .before .before in
-    (omega arith, at .loop .inv .1, stepped c .more)
+    let p = at .before .before .before .args .permutation in (
+      omega arith,
+      at .loop .inv .1,
+      running-more p (at .loop .inv .1) (at .loop .done) (at .loop .current) (at .loop .counts) (at .loop .inv .2) _
+          (ap (λ (a : Placed). a .place) (c .before .before .before .before .successor2 .ensures)) _
+          (ap (λ (a : Permuted). a .permutation) (c .before .before .before .push .ensures)) _ (c .wide .ensures),
+    )
+
+rank-requires : tie.Need-rank-requires Inv-loop μ-loop
+rank-requires c κs = search needs
 
 returns-2 : tie.Need-returns-2 Inv-loop μ-loop
 returns-2 c =
-    let at = c .before in
+    let at = c .before .before in
+    let is = ap (λ (a : Ranked). a .rank) (c .rank .ensures) in
     let p = at .before .before .before .args .permutation in
     let s = at .loop .inv .1 in
     let done : at .loop .done ≡ at .before .before .before .args .k = omega arith in
     let v = subst (λ (j : ℕ). Running p j (at .loop .current) (at .loop .counts)) done (at .loop .inv .2) in
-    (ran-done p s _ _ _ v, λ z. run-record p s _ _ _ v)
+    (ran-done p s _ _ _ v _ is, λ z. run-record p s _ _ _ v _ is)
 
 pub run-steps-spec : {M : Type 1} → statement M
 run-steps-spec =
@@ -116,4 +135,5 @@ run-steps-spec =
     add-done
     loop-less
     loop-again
+    rank-requires
     returns-2)

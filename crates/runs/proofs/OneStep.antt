@@ -1,0 +1,101 @@
+-- One step on levels, by the answers of the jobs that it asks: read, successor, push. Assumes nothing.
+use mathlib.Core.Path.{_≡_, refl, sym, ap, _∙_}
+use mathlib.Core.List.{List}
+use Prim.Native.Nat.{ℕ, suc, _-_, _≤_}
+use native.Mathlib.Omega.{arith}
+use lib.ListN.{length, getD}
+use Rattle.theory.specs.Permutation.{cellAt}
+use Rattle.theory.specs.Successor.{successor}
+use Rattle.theory.specs.Levels.{highest, lowest, permutationOf, pushLevel, jump}
+use Rattle.theory.specs.CountUp.{nextCell, callNumber}
+use Rattle.theory.proofs.Splits.{successor-bounds}
+use Rattle.theory.proofs.Sorting.{permutationOf-permutation}
+use Rattle.theory.proofs.Extremes.{level≤highest, lowest≤level}
+use Rattle.theory.proofs.Reading.{pushed-length, pushed-level}
+use Rattle.theory.proofs.CallLists.{granted}
+use Rattle.permutation.specs.Records.{recordOf}
+use Rattle.permutation.specs.Answers.{placed}
+use Rattle.permutation.specs.declared.answers.Permutation.{Permutation}
+use Rattle.permutation.specs.declared.answers.Permuted.{Permuted}
+use Rattle.permutation.specs.declared.answers.Placed.{Placed}
+use Rattle.permutation.proofs.Answering.{permuted-done, placed-record}
+use Rattle.charge.specs.Answers.{reading, placeLevels}
+use Rattle.charge.proofs.Numbers.{Readable, read-done, place-done, place-pushed}
+use Rattle.charge.proofs.Pushing.{StandsAt, stands-at}
+
+-- the permutation that is read from levels which have one
+pub reading-record : {L : List ℕ} → Readable L → reading L .permutation ≡ recordOf (permutationOf L)
+unfolding reading
+reading-record {L} r =
+    ap (λ (a : Permuted). a .permutation) (sym (permuted-done _ (permutationOf L) (recordOf (permutationOf L)) (read-done r) refl))
+
+-- a step on L that pushed this cell and left these levels
+pub record StepDone (L : List ℕ) (cell : ℕ) (after : List ℕ) : Type 0 where
+  pub cell-is : cell ≡ nextCell L
+  pub levels-are : after ≡ pushLevel (nextCell L) L
+  pub long : length after ≡ length L
+  pub raises : getD L (cell - 1) 0 ≤ getD after (cell - 1) 0
+  pub raise-is : getD after (cell - 1) 0 - getD L (cell - 1) 0 ≡ jump (nextCell L) L
+  pub bottom≤top : lowest after ≤ highest after
+
+-- a count-up call by 1 would be done on L
+module _ (L : List ℕ) (g : callNumber 1 L ≡ 0) where
+  readable : Readable L
+  readable = record { few = granted 1 L g .0; many = granted 1 L g .1; untied = granted 1 L g .2 }
+
+  -- p is what was read, and this place is what its successor answers
+  module _ (p : Permutation) (place : ℕ) (stands : p ≡ reading L .permutation) (asked : place ≡ placed p .place) where
+    standing : p ≡ recordOf (permutationOf L)
+    standing = stands ∙ reading-record readable
+
+    place-is : place ≡ successor (length L) (permutationOf L)
+    place-is =
+        asked ∙ ap (λ (q : Permutation). placed q .place) standing
+        ∙ ap (λ (a : Placed). a .place) (placed-record (length L) (permutationOf L) (readable .few) (readable .many) (permutationOf-permutation L))
+
+    pub place-bounds : (2 ≤ place) × (place ≤ length L) × (place ≤ 20)
+    place-bounds =
+        let b = successor-bounds (length L) (permutationOf L) (readable .few) in
+        rw place-is (b .0, b .1, omega (arith, b .1, readable .many))
+
+    -- the cell that stands there
+    module _ (cell : ℕ) (at : cell ≡ getD (p .cells) (place - 1) 0) where
+      stands-there : StandsAt L place cell
+      stands-there =
+          stands-at L place (omega (arith, place-bounds .0)) (place-bounds .1) (ap (λ (q : Permutation). q .cells) standing) at
+
+      cell-next : cell ≡ nextCell L
+      unfolding nextCell
+      cell-next = stands-there .is ∙ ap (λ (i : ℕ). cellAt i (permutationOf L)) place-is
+
+      pub cell-inside : (1 ≤ cell) × (cell ≤ length L)
+      cell-inside = (stands-there .low, stands-there .high)
+
+      -- its push is done
+      module _ (after : List ℕ) (pushed : after ≡ placeLevels L place) where
+        after-is : after ≡ pushLevel (nextCell L) L
+        after-is =
+            pushed
+            ∙ sym (place-pushed L place (place-done L place readable (place-bounds .0) (place-bounds .1) (granted 1 L g .3)) .1)
+            ∙ ap (λ (c : ℕ). pushLevel c L) (sym (stands-there .is) ∙ cell-next)
+
+        after-long : length after ≡ length L
+        after-long = ap length after-is ∙ pushed-length (nextCell L) L
+
+        level-after : getD after (cell - 1) 0 ≡ suc (highest L)
+        level-after =
+            rw (after-is, cell-next) (let b = cell-inside in pushed-level L (nextCell L) (rw cell-next at (b .0)) (rw cell-next at (b .1)))
+
+        pub step-done : StepDone L cell after
+        unfolding jump
+        step-done =
+            let size = after-long in
+            record {
+              cell-is = cell-next;
+              levels-are = after-is;
+              long = after-long;
+              raises = omega (arith, level-after, level≤highest L cell);
+              raise-is = rw (after-is, cell-next);
+              bottom≤top =
+                  omega (arith, lowest≤level after cell (cell-inside .0) (omega (arith, cell-inside .1)), level≤highest after cell);
+            }

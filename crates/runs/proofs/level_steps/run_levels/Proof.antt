@@ -1,0 +1,138 @@
+-- `runs::level_steps::run_levels` meets its contract. The loop's invariant: levels, counts and bounds are those of the steps done. Assumes nothing.
+use mathlib.Core.Path.{_≡_, sym, ap, subst, _∙_}
+use Prim.Native.Nat.{ℕ, _-_, _≤_}
+use native.Mathlib.Omega.{arith}
+use borrow.Author.Needs.{needs}
+use lib.ListN.{getD}
+use Rattle.theory.specs.CountUp.{callNumber}
+use Rattle.permutation.specs.declared.answers.Permuted.{Permuted}
+use Rattle.permutation.specs.declared.answers.Ranked.{Ranked}
+use Rattle.runs.proofs.LevelRunning.{RunningLevels, levels-none, levels-long, step-granted, step-inside, levels-more}
+use Rattle.runs.proofs.LevelRunning.{ran-levels-left, levels-left, levels-of, ran-levels-refused}
+use Rattle.runs.proofs.level_steps.run_levels.Statement.{statement}
+use Rattle.runs.proofs.level_steps.run_levels.Tie as tie
+
+abbrev Inv-loop : tie.InvT-loop
+Inv-loop levels₀ k number counts₀ widest₀ largest₀ done₀ levels counts widest largest done =
+    (done ≤ k) × (callNumber k levels₀ ≡ 0) × RunningLevels levels₀ done levels counts widest largest
+
+abbrev μ-loop : tie.MeasureT-loop
+μ-loop levels₀ k number counts₀ widest₀ largest₀ done₀ levels counts widest largest done = k - done
+
+call-number-requires : tie.Need-call-number-requires Inv-loop μ-loop
+call-number-requires c κs = search needs
+
+same-length : tie.Need-same-length Inv-loop μ-loop
+same-length c = search needs
+
+returns : tie.Need-returns Inv-loop μ-loop
+returns c =
+    let r = ran-levels-refused _ _ _ (c .before .call-number .ensures) (c .if1 .taken) in
+    (r .0, (r .1, λ z. absurd (c .if1 .taken z)))
+
+loop-holds : tie.Need-loop-holds Inv-loop μ-loop
+loop-holds c =
+    let g = sym (c .before .call-number .ensures) ∙ c .if1 .left in
+    (omega arith, g, levels-none _ _ g)
+
+step-levels-requires : tie.Need-step-levels-requires Inv-loop μ-loop
+step-levels-requires c κs =
+    let at = c .before .before in
+    step-granted _ _ (at .loop .inv .1) _ _ _ _ _ (at .loop .inv .2) (c .before .loop-test .taken)
+
+-- the step that a turn does
+counted : (c : tie.After-step-levels Inv-loop μ-loop)
+    → let at = c .before .before .before in
+    let cell = c .step-levels .result .cell in
+    (1 ≤ cell) × (cell ≤ 20) × (getD (at .loop .counts) (cell - 1) 0 ≤ at .loop .done)
+counted c =
+    let at = c .before .before .before in
+    let e = c .step-levels .ensures in
+    step-inside _ _ (at .loop .inv .1) _ _ _ _ _ (at .loop .inv .2) _ _ _ _ (e .0) (e .1 .0) (e .1 .1 .0) (e .1 .1 .1)
+
+sub-counts : tie.Need-sub-counts Inv-loop μ-loop
+sub-counts c = counted (c .before .before) .0
+
+mul-counts : tie.Need-mul-counts Inv-loop μ-loop
+mul-counts c = omega (arith, counted (c .before .before) .1)
+
+array-read-counts : tie.Need-array-read-counts Inv-loop μ-loop
+array-read-counts c = let b = counted (c .before .before) in omega arith
+
+add-counts : tie.Need-add-counts Inv-loop μ-loop
+add-counts c = let b = counted (c .before .before) in omega (arith, b .2)
+
+array-write-counts : tie.Need-array-write-counts Inv-loop μ-loop
+array-write-counts c = array-read-counts c
+
+larger-requires : tie.Need-larger-requires Inv-loop μ-loop
+larger-requires c κs = search needs
+
+larger-requires-2 : tie.Need-larger-requires-2 Inv-loop μ-loop
+larger-requires-2 c κs = search needs
+
+add-done : tie.Need-add-done Inv-loop μ-loop
+add-done c = search needs
+
+loop-less : tie.Need-loop-less Inv-loop μ-loop
+loop-less c = search needs
+
+loop-again : tie.Need-loop-again Inv-loop μ-loop
+loop-again c =
+    let at = c .before .before .before .before .before .before .before in
+    let e = c .before .before .before .before .step-levels .ensures in (
+      omega arith,
+      at .loop .inv .1,
+      rw (c .before .larger .ensures, c .larger2 .ensures)
+          (levels-more _ _ (at .loop .inv .1) _ _ _ _ _ (at .loop .inv .2) _ _ _ _ (e .0) (e .1 .0) (e .1 .1 .0) (e .1 .1 .1)),
+    )
+
+read-requires : tie.Need-read-requires Inv-loop μ-loop
+read-requires c κs = search needs
+
+rank-requires : tie.Need-rank-requires Inv-loop μ-loop
+rank-requires c κs = search needs
+
+same-length-2 : tie.Need-same-length-2 Inv-loop μ-loop
+same-length-2 c =
+    let at = c .before .before .before .before .before in
+    levels-long _ _ (at .loop .inv .1) _ _ _ _ _ (at .loop .inv .2)
+
+returns-2 : tie.Need-returns-2 Inv-loop μ-loop
+returns-2 c =
+    let at = c .before .before .before .before .before in
+    let g = at .loop .inv .1 in
+    let L = at .before .before .before .before .before .args .levels .now in
+    let k = at .before .before .before .before .before .args .k in
+    let all : at .loop .done ≡ k = omega (arith, at .loop .inv .0) in
+    let v = subst (λ (j : ℕ). RunningLevels L j (at .loop .levels) (at .loop .counts) (at .loop .widest) (at .loop .largest)) all (at .loop .inv .2) in
+    let stands = ap (λ (a : Permuted). a .permutation) (c .before .before .read .ensures) in
+    let ranks = ap (λ (a : Ranked). a .rank) (c .rank .ensures) in
+    rw all
+    (ran-levels-left L k g _ _ _ _ v _ _ stands ranks, (levels-left L k g _ _ _ _ v _ _ stands ranks, λ z. levels-of L k g _ _ _ _ v _ _ stands ranks))
+
+pub run-levels-spec : {M : Type 1} → statement M
+run-levels-spec =
+    tie.close
+    (tie.spec
+    Inv-loop
+    μ-loop
+    call-number-requires
+    same-length
+    returns
+    loop-holds
+    step-levels-requires
+    sub-counts
+    mul-counts
+    array-read-counts
+    add-counts
+    array-write-counts
+    larger-requires
+    larger-requires-2
+    add-done
+    loop-less
+    loop-again
+    read-requires
+    rank-requires
+    same-length-2
+    returns-2)

@@ -1,0 +1,124 @@
+-- `runs::level_steps::step_levels` meets its contract, by what the jobs answer that it asks. Assumes nothing.
+use mathlib.Core.Path.{_≡_, ap, ap₂}
+use Prim.Native.Nat.{_-_, _≤_}
+use native.Mathlib.Omega.{arith}
+use borrow.Author.Needs.{needs}
+use lib.ListN.{length}
+use Rattle.permutation.specs.Answers.{placed}
+use Rattle.permutation.specs.declared.answers.Permuted.{Permuted}
+use Rattle.permutation.specs.declared.answers.Placed.{Placed}
+use Rattle.charge.specs.Answers.{reading}
+use Rattle.runs.proofs.OneStep.{place-bounds, cell-inside, StepDone, step-done}
+use Rattle.runs.proofs.level_steps.step_levels.Statement.{statement}
+use Rattle.runs.proofs.level_steps.step_levels.Tie as tie
+
+-- what was read, and the place that its successor answers
+read-is : (c : tie.After-successor) → c .before .before .read .result .permutation ≡ reading (c .before .before .before .before .before .args .levels .now) .permutation
+read-is c = ap (λ (a : Permuted). a .permutation) (c .before .before .read .ensures)
+
+place-is : (c : tie.After-successor) → c .successor .result .place ≡ placed (c .before .before .read .result .permutation) .place
+place-is c = ap (λ (a : Placed). a .place) (c .successor .ensures)
+
+bounds : (c : tie.After-successor)
+    → let place = c .successor .result .place in
+    (2 ≤ place) × (place ≤ length (c .before .before .before .before .before .args .levels .now)) × (place ≤ 20)
+bounds c = place-bounds _ (c .before .before .before .before .before .pre) _ _ (read-is c) (place-is c)
+
+-- the cell that stands there
+inside : (c : tie.After-wide)
+    → (1 ≤ c .wide .result) × (c .wide .result ≤ length (c .before .before .before .before .before .before .before .args .levels .now))
+inside c =
+    let asked = c .before .before in
+    cell-inside _ (asked .before .before .before .before .before .pre) _ _ (read-is asked) (place-is asked) _ (c .wide .ensures)
+
+-- its push
+pushed : (c : tie.After-push-level)
+    → let chosen = c .before .before .before in
+    StepDone (chosen .before .before .before .before .before .before .before .args .levels .now) (chosen .wide .result) (c .push-level .last .0)
+pushed c =
+    let chosen = c .before .before .before in
+    let asked = chosen .before .before in
+    step-done _ (asked .before .before .before .before .before .pre) _ _ (read-is asked) (place-is asked) _ (chosen .wide .ensures) _
+    (c .push-level .ensures .1)
+
+read-requires : tie.Need-read-requires
+read-requires c κs = search needs
+
+successor-requires : tie.Need-successor-requires
+successor-requires c κs = search needs
+
+sub-wide : tie.Need-sub-wide
+sub-wide c = omega (arith, bounds (c .before) .0)
+
+array-read-wide : tie.Need-array-read-wide
+array-read-wide c = let b = bounds (c .before) in omega (arith, b .0, b .2)
+
+wide-requires : tie.Need-wide-requires
+wide-requires c κs = search needs
+
+sub-before : tie.Need-sub-before
+sub-before c = inside c .0
+
+mul-before : tie.Need-mul-before
+mul-before c = omega (arith, inside c .1)
+
+slice-read-before : tie.Need-slice-read-before
+slice-read-before c = let b = inside (c .before) in omega arith
+
+push-level-requires : tie.Need-push-level-requires
+push-level-requires c κs = search needs
+
+sub-after : tie.Need-sub-after
+sub-after c = inside (c .before .before .before .before .before) .0
+
+mul-after : tie.Need-mul-after
+mul-after c = omega (arith, inside (c .before .before .before .before .before) .1)
+
+slice-read-after : tie.Need-slice-read-after
+slice-read-after c =
+    let d = pushed (c .before .before .before) in
+    let b = inside (c .before .before .before .before .before .before) in
+    omega (arith, d .long, b .0, b .1)
+
+sub-t18 : tie.Need-sub-t18
+sub-t18 c = pushed (c .before .before .before) .raises
+
+highest-requires : tie.Need-highest-requires
+highest-requires c κs = search needs
+
+lowest-requires : tie.Need-lowest-requires
+lowest-requires c κs = search needs
+
+sub-t29 : tie.Need-sub-t29
+sub-t29 c = let d = pushed (c .before .before .before .before .before .before .before) in omega (arith, d .bottom≤top, c .lowest .ensures, c .before .before .highest .ensures)
+
+same-length : tie.Need-same-length
+same-length c = pushed (c .before .before .before .before .before .before .before) .long
+
+returns : tie.Need-returns
+returns c =
+    let d = pushed (c .before .before .before .before .before .before .before) in
+    (d .cell-is, (d .raise-is, (ap₂ _-_ (c .before .before .highest .ensures) (c .lowest .ensures), d .levels-are)))
+
+pub step-levels-spec : {M : Type 1} → statement M
+step-levels-spec =
+    tie.close
+    (tie.spec
+    read-requires
+    successor-requires
+    sub-wide
+    array-read-wide
+    wide-requires
+    sub-before
+    mul-before
+    slice-read-before
+    push-level-requires
+    sub-after
+    mul-after
+    slice-read-after
+    sub-t18
+    highest-requires
+    lowest-requires
+    sub-t29
+    same-length
+    returns)

@@ -1,0 +1,104 @@
+// k steps on lent levels, by the public jobs alone: each step reads the permutation, asks its successor and pushes on the levels at the place given.
+ghost use mathlib.Core.Path.{_≡_};
+ghost use Prim.Native.Nat.{max};
+ghost use Rattle.theory.specs.Levels.{pushLevel, jump};
+ghost use Rattle.theory.specs.CountUp.{nextCell, callNumber, callLevels};
+ghost use Rattle.runs.specs.LevelSteps.{topLessBottom, ranLevels, LevelsOf};
+use super::answers::RanLevels;
+use charge::judge::fault;
+use charge::judge::highest;
+use charge::judge::lowest;
+use charge::push_level::push_level;
+use charge::read::read;
+use permutation::cell::wide;
+use permutation::rank::rank;
+use permutation::reasons::CEILING;
+use permutation::successor::successor;
+
+// The number of a count-up call by k.
+fn call_number(levels: &[u16], k: u32) -> u8
+    ensures { λ r. ⌜ r ≡ callNumber k (now (levels .entry)) ⌝ }
+{
+    let number = fault(levels);
+    if number != 0 {
+        return number;
+    }
+    if 65535 - (highest(levels) as u32) < k {
+        return CEILING;
+    }
+    0
+}
+
+// What a step did: the cell that it pushed, by how much it raised it, and the highest level less the lowest after it.
+struct Stepped {
+    cell: usize,
+    raise: u16,
+    spread: u16,
+}
+
+fn step_levels(levels: &mut [u16]) -> Stepped
+    requires { ⌜ callNumber 1 (now levels) ≡ 0 ⌝ }
+    ensures { λ r. ⌜ r .cell ≡ nextCell (now (levels .entry)) ⌝ }
+    ensures { λ r. ⌜ r .raise ≡ jump (nextCell (now (levels .entry))) (now (levels .entry)) ⌝ }
+    ensures { λ r. ⌜ r .spread ≡ topLessBottom (now (levels .exit)) ⌝ }
+    ensures { λ _. ⌜ now (levels .exit) ≡ pushLevel (nextCell (now (levels .entry))) (now (levels .entry)) ⌝ }
+{
+    let standing = read(levels).permutation;
+    let place = successor(standing).place;
+    let cells = standing.cells;
+    let cell = wide(cells[place - 1]);
+    let before = levels[cell - 1];
+    push_level(levels, place);
+    let after = levels[cell - 1];
+    Stepped {
+        cell,
+        raise: after - before,
+        spread: highest(levels) - lowest(levels),
+    }
+}
+
+fn larger(a: u16, b: u16) -> u16
+    ensures { λ r. ⌜ r ≡ max a b ⌝ }
+{
+    if a < b { b } else { a }
+}
+
+// Refused exactly as count up by k is. The last clause is demand 3 of what is returned and left.
+pub fn run_levels(levels: &mut [u16], k: u32) -> RanLevels
+    ensures { λ r. ⌜ r ≡ ranLevels (now (levels .entry)) k ⌝ }
+    ensures { λ _. ⌜ now (levels .exit) ≡ callLevels k (now (levels .entry)) ⌝ }
+    ensures { λ r. ⌜ (r .number ≡ 0 → LevelsOf (now (levels .entry)) k (now (levels .exit)) r) ⌝ }
+{
+    let number = call_number(levels, k);
+    let mut counts = [0u64; 20];
+    if number != 0 {
+        return RanLevels {
+            number,
+            pushes: 0,
+            counts,
+            widest: 0,
+            largest: 0,
+            rank: 0,
+        };
+    }
+    let mut widest: u16 = 0;
+    let mut largest: u16 = 0;
+    let mut done: u32 = 0;
+    while done < k {
+        let stepped = step_levels(levels);
+        let cell = stepped.cell;
+        counts[cell - 1] += 1;
+        widest = larger(widest, stepped.spread);
+        largest = larger(largest, stepped.raise);
+        done += 1;
+    }
+    let standing = read(levels).permutation;
+    RanLevels {
+        number: 0,
+        pushes: done,
+        counts,
+        widest,
+        largest,
+        rank: rank(standing).rank,
+    }
+}
