@@ -9,5 +9,6 @@ pub mod Marks
 pub mod Circle
 pub mod Spots
 pub mod Meeting
+pub mod Checking
 pub mod Values
 pub mod Filling

@@ -1,7 +1,7 @@
 -- The pass over the names: what holds when some were met, how a name rules a permutation out, and what is found out when all were met.
 -- Assumes nothing.
 use mathlib.Core.Path.{_≡_, refl, ap, sym, _∙_}
-use mathlib.Core.Bool.{true, false, false≢true}
+use mathlib.Core.Bool.{true, cond}
 use mathlib.Core.List.{List, [], _∷_, _++_}
 use mathlib.Core.Logic.{_⊎_, inl, inr, ⊎-elim}
 use Prim.Native.Nat.{ℕ, zero, suc, _+_, _%_, _^_, _≤_, _<_}
@@ -11,15 +11,18 @@ use native.Mathlib.Omega.{arith}
 use borrow.Author.Tests.{lt-ltb, le-ltb}
 use lib.Count.{ones}
 use lib.ListN.{length, getD, take, drop, set, replicate, length-set, length-append, getD-replicate}
-use lib.Seq.{take-suc, take-take, getD-take, getD-set-same, getD-set-other, length-take-le, split-at}
-use Rattle.theory.specs.Lists.{delta, count}
+use lib.Seq.{take-suc, take-take, getD-take, getD-set-same, getD-set-other, length-take-le, split-at, ext-getD}
+use Rattle.theory.specs.Reasons.{done, muddle}
+use Rattle.theory.specs.Lists.{delta, count, member}
 use Rattle.theory.proofs.Cases.{by-test, by-name}
 use Rattle.theory.proofs.Counts.{delta-self, delta-ne, count-append}
+use Rattle.theory.proofs.Members.{member-count, count-none}
 use Rattle.theory.proofs.Permutations.{inside}
 use Rattle.permutation.specs.Records.{onceEach}
-use Rattle.permutation.specs.Spots.{spot, Spotted}
+use Rattle.permutation.specs.Spots.{spot, spotRow, withoutSpots, spotted}
+use Rattle.permutation.specs.declared.validity.Checked.{Checked}
 use Rattle.permutation.proofs.Records.{once-count, count-once, once-permutation}
-use Rattle.permutation.proofs.Spots.{under, under-le, under-snoc, under-suc, spot-first}
+use Rattle.permutation.proofs.Spots.{spot-row-at, spot-row-length, under, under-le, under-snoc, under-suc, spot-first}
 use Rattle.permutation.proofs.Marks.{Marks, bit-small, marks-start, marks-turn}
 
 -- v is 20 and c was not met, or v is the spot of c, which was met once
@@ -112,22 +115,20 @@ module _ {n i x : ℕ} {cells : List ℕ} (t : Turn n i x cells) where
   has-name c = ap (count c) parts ∙ count-append c (take i cells) (x ∷ drop (suc i) (take n cells))
 
   -- x rules a permutation out
-  ruled-out : (spots : List ℕ) → (onceEach n (take n cells) ≡ true → ⊥) → Spotted (take n cells) n false spots
-  ruled-out spots h = record {
-    right = by-test (onceEach n (take n cells)) (λ e. absurd (h e)) sym;
-    found = λ z. absurd (false≢true z);
-  }
+  ruled-out : (onceEach n (take n cells) ≡ true → ⊥) → withoutSpots muddle ≡ spotted n (take n cells)
+  unfolding spotted
+  ruled-out h = by-test (onceEach n (take n cells)) (λ e. absurd (h e)) (λ e. rw e)
 
-  pub met-outside : (spots : List ℕ) → ((1 ≤ x) × (x ≤ n) → ⊥) → Spotted (take n cells) n false spots
-  met-outside spots h =
-      ruled-out spots (λ e.
+  pub met-outside : ((1 ≤ x) × (x ≤ n) → ⊥) → withoutSpots muddle ≡ spotted n (take n cells)
+  met-outside h =
+      ruled-out (λ e.
       let o = once-permutation n (take n cells) (names-long n (le-refl n)) e in
       h (inside n (take n cells) o x (omega (arith, has-name x, delta-self x))))
 
   module _ {spots : List ℕ} {seen : ℕ} (m : Met n (take i cells) spots seen) (pos : 1 ≤ x) (high : x ≤ n) where
-    pub met-twice : (getD spots x 0 ≡ 20 → ⊥) → Spotted (take n cells) n false spots
+    pub met-twice : (getD spots x 0 ≡ 20 → ⊥) → withoutSpots muddle ≡ spotted n (take n cells)
     met-twice ne =
-        ruled-out spots (λ e.
+        ruled-out (λ e.
         omega (arith, once-count n (take n cells) e x pos high, has-name x, delta-self x, old-name m (t .few) x pos high ne))
 
     pub met-fits : seen + 2 ^ x < 2 ^ 32
@@ -159,15 +160,21 @@ all-once (suc m) T none one all c low high =
     (λ q e. ap (λ (k : ℕ). count k T) q ∙ first)
     (λ ne e. all-once m T none less (omega (arith, under-suc (suc m) T)) c low (omega (arith, ne)))
 
-pub met-all : {n : ℕ} {T spots : List ℕ} {seen : ℕ} → Met n T spots seen → n ≤ 20 → length T ≡ n → Spotted T n true spots
+-- what was noted of c is its entry in the row of spots
+seen-entry : (v c : ℕ) (T : List ℕ) → Seen v c T → v ≡ cond (member c T) (spot c T) 20
+seen-entry v c T s =
+    by-test (member c T)
+    (λ e. rw e (⊎-elim (λ n. absurd (omega (arith, member-count c T e))) (λ y. y .1) s))
+    (λ e. rw e (⊎-elim (λ n. n .1) (λ y. absurd (omega (arith, count-none c T e))) s))
+
+pub met-all : {n : ℕ} {T spots : List ℕ} {seen : ℕ} → Met n T spots seen → n ≤ 20 → length T ≡ n
+    → _≡_ {A = Checked} (record { number = done; spots = spots }) (spotted n T)
+unfolding spotted
 met-all {n} {T} {spots} m few all =
     let one : (c : ℕ) → c ≤ n → count c T ≤ 1 =
     λ c h. ⊎-elim (λ s. omega arith) (λ s. omega arith) (m .each c (omega arith)) in
-    let once = all-once n T (m .positive) one (m .within ∙ all) in
-    record {
-      right = sym (count-once n T once);
-      found = λ e. record {
-        each = λ c low high.
-            ⊎-elim (λ s. absurd (omega (arith, once c low high))) (λ s. s .1) (m .each c (omega arith));
-      };
-    }
+    let row : spots ≡ spotRow T =
+    ext-getD 0 spots (spotRow T) (m .slots ∙ sym (spot-row-length T)) (λ c h.
+    let name : c ≤ 20 = omega arith in
+    seen-entry (getD spots c 0) c T (m .each c name) ∙ sym (spot-row-at T c name)) in
+    rw (count-once n T (all-once n T (m .positive) one (m .within ∙ all)), row)

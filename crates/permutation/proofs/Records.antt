@@ -13,7 +13,6 @@ use Rattle.theory.specs.Lists.{count}
 use Rattle.theory.specs.Permutation.{IsPermutation, row}
 use Rattle.theory.proofs.Cases.{by-name}
 use Rattle.permutation.specs.Records.{listOf, recordOf, onceEach, allZero, faultOf}
-use Rattle.permutation.specs.Spots.{Checks}
 use Rattle.permutation.specs.declared.answers.Permutation.{Permutation}
 
 -- ---- each of 1 to n once
@@ -108,9 +107,6 @@ sound p long h =
       permutation = once-permutation n (listOf p) names (g .0);
       is = ap (λ (k : ℕ). made k (p .cells)) (sym names) ∙ ap (made (length (listOf p))) cells;
     }
-
-pub checked : {p : Permutation} {number : ℕ} {spots : List ℕ} → length (p .cells) ≡ 20 → Checks p number spots → number ≡ 0 → Sound p
-checked {p} long c e = sound p long (sym (c .right) ∙ e)
 
 -- the record of a permutation is not refused
 pub fault-record : (n : ℕ) (xs : List ℕ) → 2 ≤ n → n ≤ 20 → IsPermutation n xs → faultOf (recordOf xs) ≡ 0

@@ -1,26 +1,51 @@
--- Spots: that of a split list's cell, that each is below its cell, and that the digits by spots are the permutation's digits. Assumes nothing.
+-- Spots: the row of them, that of a split list's cell, that each is below its cell, and that the digits by spots are the permutation's digits.
+-- Assumes nothing.
 use mathlib.Core.Path.{_≡_, refl, ap, sym, _∙_}
 use mathlib.Core.Bool.{Bool, true, false, cond, not}
-use mathlib.Core.List.{List, [], _∷_, _++_, append-nil}
+use mathlib.Core.List.{List, [], _∷_, _++_, map, append-nil}
 use Prim.Native.Nat.{ℕ, zero, suc, _+_, _-_, _≤_, _<_}
 use native.Mathlib.Nat.{le-refl, sub-zero, sub-self}
 use native.Mathlib.Numerals.{sub-one}
 use native.Mathlib.Omega.{arith}
 use borrow.Author.Tests.{eq-eqb, ne-eqb, lt-ltb, le-ltb, le-leb, lt-leb}
 use lib.Dec.{ltb}
-use lib.ListN.{length, getD, take, drop, set, replicate, take-append-drop}
+use lib.ListN.{length, getD, take, drop, set, replicate, length-map, take-append-drop, List·getD-map}
 use lib.Seq.{append-snoc, take-suc-set, drop-set-lt}
-use Rattle.theory.specs.Lists.{count}
+use Rattle.theory.specs.Lists.{count, member, namesFrom}
 use Rattle.theory.specs.Permutation.{IsPermutation, row}
 use Rattle.theory.specs.Rank.{digit, digits}
 use Rattle.theory.proofs.Cases.{by-test, by-name, by-le, by-order}
 use Rattle.theory.proofs.Counts.{delta-eq, delta-self, delta-ne, count-append, adds-between}
+use Rattle.theory.proofs.Members.{count-member}
+use Rattle.theory.proofs.Names.{names-length, names-at}
+use Rattle.theory.proofs.Padding.{getD-any}
 use Rattle.theory.proofs.Permutations as permutations
 use Rattle.theory.proofs.Permutations.{Around, inside, removed}
 use Rattle.theory.proofs.Ranking.{digits-long}
-use Rattle.permutation.specs.Spots.{spot, HasSpots, Low, passed, readDigits, readInto}
+use Rattle.permutation.specs.Spots.{spot, spotRow, HasSpots, Low, passed, readDigits, readInto}
 use Rattle.permutation.proofs.Circle.{around, digits-around}
 use Rattle.permutation.proofs.Zeros.{filled}
+
+-- ---- the row of spots
+
+-- the entry of c, in a row of what f makes of each name from 0 on
+entry-of : (f : ℕ → ℕ) (n c : ℕ) → c < n → getD (map f (namesFrom 0 n)) c 0 ≡ f c
+entry-of f n c h =
+    let there : c < length (map f (namesFrom 0 n)) = omega (arith, length-map (namesFrom 0 n) f, names-length 0 n) in
+    getD-any (map f (namesFrom 0 n)) c 0 (f 0) there ∙ List·getD-map f (namesFrom 0 n) c 0 ∙ ap f (names-at 0 n c h ∙ omega arith)
+
+pub spot-row-at : (xs : List ℕ) (c : ℕ) → c ≤ 20 → getD (spotRow xs) c 0 ≡ cond (member c xs) (spot c xs) 20
+unfolding spotRow
+spot-row-at xs c h = entry-of (λ c. cond (member c xs) (spot c xs) 20) 21 c (omega arith)
+
+pub spot-row-length : (xs : List ℕ) → length (spotRow xs) ≡ 21
+unfolding spotRow
+spot-row-length xs = refl
+
+pub row-has-spots : {n : ℕ} {xs : List ℕ} → n ≤ 20 → IsPermutation n xs → HasSpots xs n (spotRow xs)
+row-has-spots {n} {xs} few o = record {
+  each = λ c low high. spot-row-at xs c (omega arith) ∙ rw (count-member c xs (omega (arith, o .once c low high)));
+}
 
 -- ---- how many names below c stand in a list
 unfoldable pub under : ℕ → List ℕ → ℕ

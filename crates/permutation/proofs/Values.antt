@@ -67,12 +67,12 @@ module _ (n : ℕ) (xs : List ℕ) (few : n ≤ 20) where
   first : take n (row (digits n xs)) ≡ digits n xs
   first = ap (λ (k : ℕ). take k (row (digits n xs))) (sym (digits-long n xs)) ∙ padded .first
 
-  pub digits-bounded : (length (row (digits n xs)) ≡ 20) × Bounded (row (digits n xs)) n
-  digits-bounded = (padded .long, record { few = few; small = small })
+  pub digits-bounded : Bounded (row (digits n xs)) n
+  digits-bounded = record { few = few; small = small }
     where
       small : (i : ℕ) → i < n → getD (row (digits n xs)) i 0 < n - i
       small i h =
           rw (← getD-take n (row (digits n xs)) i 0 h, first) (ranking n .digits-range xs i h)
 
-  pub row-value : digitValue n (take n (row (digits n xs))) ≡ rank n xs
-  row-value = ap (digitValue n) first ∙ digits-rank n xs
+  pub row-rank : digitValue n (take n (row (digits n xs))) ≡ rank n xs
+  row-rank = ap (digitValue n) first ∙ digits-rank n xs

@@ -1,40 +1,52 @@
--- The digits and the permutation of a rank, by spots: the spot of a cell is how many smaller ones stand before it. Only private contracts cite these.
+-- The digits and the permutation of a rank, by spots: the spot of a cell is how many smaller ones stand before it. Only inner contracts cite these.
 -- Assumes nothing.
 use mathlib.Core.Path.{_≡_}
 use mathlib.Core.Bool.{Bool, true, false, cond, not}
-use mathlib.Core.List.{List, [], _∷_, _++_}
+use mathlib.Core.List.{List, [], _∷_, _++_, map}
 use Prim.Native.Nat.{ℕ, zero, suc, _+_, _-_, _/_, _%_, _≤_, _<_}
 use lib.Dec.{eqb, leb, ltb}
-use lib.ListN.{getD, take, drop}
+use lib.ListN.{getD, take, drop, replicate}
+use Rattle.theory.specs.Reasons.{done, muddle}
+use Rattle.theory.specs.Lists.{member, namesFrom}
 use Rattle.theory.specs.Rank.{digit}
 use Rattle.theory.specs.Unrank.{placeOfDigit}
 use Rattle.permutation.specs.Records.{listOf, onceEach, faultOf}
+use Rattle.permutation.specs.Answers.{given}
 use Rattle.permutation.specs.declared.answers.Permutation.{Permutation}
+use Rattle.permutation.specs.declared.validity.Checked.{Checked}
 
 -- how many names below c stand before c in xs
 unfoldable pub spot : ℕ → List ℕ → ℕ
 spot c [] = 0
 spot c (x ∷ xs) = cond (eqb x c) 0 (cond (ltb x c) 1 0 + spot c xs)
 
+-- by cell name, for 0 to 20: the spot of c where c stands in xs, and otherwise 20, which is no spot
+unfoldable pub spotRow : List ℕ → List ℕ
+spotRow xs = map (λ c. cond (member c xs) (spot c xs) 20) (namesFrom 0 21)
+
+-- what a check answers: the row of spots where the number says done, and zeros beside any other
+abbrev pub spotsIf : ℕ → List ℕ → Checked
+spotsIf number xs = record { number = number; spots = given number (spotRow xs) (replicate 21 0) }
+
+abbrev pub withoutSpots : ℕ → Checked
+withoutSpots number = record { number = number; spots = replicate 21 0 }
+
+-- the pass over xs: is each of 1 to n once among them?
+unfoldable pub spotted : ℕ → List ℕ → Checked
+spotted n xs = spotsIf (cond (onceEach n xs) done muddle) xs
+
+-- the check of a record: why it is refused, or the spots of its list
+unfoldable pub checked : Permutation → Checked
+checked p = spotsIf (faultOf p) (listOf p)
+
 -- the spots of 1 to n
 pub record HasSpots (xs : List ℕ) (n : ℕ) (spots : List ℕ) : Type 0 where
   pub each : (c : ℕ) → 1 ≤ c → c ≤ n → getD spots c 0 ≡ spot c xs
-
--- what the pass over xs finds out
-pub record Spotted (xs : List ℕ) (n : ℕ) (once : Bool) (spots : List ℕ) : Type 0 where
-  pub right : once ≡ onceEach n xs
-  pub found : once ≡ true → HasSpots xs n spots
 
 -- what the readers ask of the spots: that of c is below c
 pub record Low (spots : List ℕ) (n : ℕ) : Type 0 where
   pub few : n ≤ 20
   pub low : (c : ℕ) → 1 ≤ c → c ≤ n → getD spots c 0 < c
-
--- what the check of a record finds out
-pub record Checks (p : Permutation) (number : ℕ) (spots : List ℕ) : Type 0 where
-  pub right : number ≡ faultOf p
-  pub found : number ≡ 0 → HasSpots (listOf p) (p .n) spots
-  pub low : number ≡ 0 → Low spots (p .n)
 
 -- of m cells on a circle, how many are passed from the gap s to the cell at spot j: down the places (true), or up. The gap s is before the cell at spot s,
 -- and the gap m past the last

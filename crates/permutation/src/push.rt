@@ -20,6 +20,16 @@ pub fn push_row(cells: &mut [u8; 20], place: usize)
     put_in(cells, place - 1, 0, c);
 }
 
+// By value: the row pushed.
+fn pushed_row(cells: [u8; 20], place: usize) -> [u8; 20]
+    requires { ⌜ (1 ≤ place) × (place ≤ 20) ⌝ }
+    ensures { λ r. ⌜ r ≡ meaning.push place cells ⌝ }
+{
+    let mut row = cells;
+    push_row(&mut row, place);
+    row
+}
+
 pub fn push(permutation: Permutation, place: usize) -> Permuted
     ensures { λ r. ⌜ r ≡ pushed permutation place ⌝ }
 {
@@ -34,8 +44,8 @@ pub fn push(permutation: Permutation, place: usize) -> Permuted
     if n < place {
         return refuse(VALUE);
     }
-    let mut cells = permutation.cells;
-    push_row(&mut cells, place);
+    let row = permutation.cells;
+    let cells = pushed_row(row, place);
     Permuted {
         number: 0,
         permutation: Permutation { n, cells },

@@ -1,6 +1,6 @@
 // The rank: the number that the digits stand for.
 ghost use mathlib.Core.Path.{_≡_};
-ghost use lib.ListN.{length, take};
+ghost use lib.ListN.{take};
 ghost use Rattle.theory.specs.Rank as meaning;
 ghost use Rattle.permutation.specs.Answers.{ranked};
 ghost use Rattle.permutation.specs.Spots.{Bounded};
@@ -9,10 +9,10 @@ use super::answers::Ranked;
 use super::cell::wide_digit;
 use super::digits::digits;
 
-// A nested product, the last digit first.
-fn value_of(row: &[u8; 20], n: usize) -> u64
-    requires { ⌜ (length (now row) ≡ 20) × Bounded (now row) n ⌝ }
-    ensures { λ r. ⌜ r ≡ meaning.digitValue n (take n (now (row .entry))) ⌝ }
+// A nested product, the last digit first. The row goes by value.
+fn row_value(row: [u8; 20], n: usize) -> u64
+    requires { ⌜ Bounded row n ⌝ }
+    ensures { λ r. ⌜ r ≡ meaning.digitValue n (take n row) ⌝ }
 {
     let mut rank: u64 = 0;
     let mut m: usize = 0;
@@ -36,6 +36,6 @@ pub fn rank(permutation: Permutation) -> Ranked
     let row = found.row;
     Ranked {
         number: 0,
-        rank: value_of(&row, n),
+        rank: row_value(row, n),
     }
 }

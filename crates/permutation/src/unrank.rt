@@ -1,5 +1,6 @@
 // The permutation of a rank, by spots: the cells are put in one after the other, the smallest first, and nothing is turned round.
 ghost use mathlib.Core.Path.{_≡_};
+ghost use mathlib.Core.Bool.{true};
 ghost use mathlib.Core.List.{_++_};
 ghost use Prim.Native.Nat.{_+_, _≤_, _<_};
 ghost use lib.ListN.{length, drop};
@@ -49,6 +50,16 @@ fn fill(cells: &mut [u8; 20], down: bool, m: usize, s: usize, rank: u64)
     }
 }
 
+// By value: the row with the cells of the rank in its first n places.
+fn filled_row(cells: [u8; 20], n: usize, rank: u64) -> [u8; 20]
+    requires { ⌜ n ≤ 20 ⌝ }
+    ensures { λ r. ⌜ r ≡ cellsBySpots true n 0 rank ++ drop n cells ⌝ }
+{
+    let mut row = cells;
+    fill(&mut row, true, n, 0, rank);
+    row
+}
+
 pub fn unrank(n: usize, rank: u64) -> Permuted
     ensures { λ r. ⌜ r ≡ unranked n rank ⌝ }
 {
@@ -61,8 +72,8 @@ pub fn unrank(n: usize, rank: u64) -> Permuted
     if factorial(n) <= rank {
         return refuse(VALUE);
     }
-    let mut cells = [0u8; 20];
-    fill(&mut cells, true, n, 0, rank);
+    let zeros = [0u8; 20];
+    let cells = filled_row(zeros, n, rank);
     Permuted {
         number: 0,
         permutation: Permutation { n, cells },

@@ -4,11 +4,24 @@ ghost use Prim.Native.Nat.{_%_, _^_, _≤_};
 ghost use lib.ListN.{length, take, drop};
 ghost use lib.Count.{ones};
 ghost use Rattle.permutation.specs.Records.{allZero};
-ghost use Rattle.permutation.specs.Spots.{Spotted, Checks};
+ghost use Rattle.permutation.specs.Spots.{withoutSpots, spotted, checked};
 use super::answers::Permutation;
 use super::cell::wide;
 use super::reasons::MUDDLE;
 use super::reasons::SIZE;
+
+// SIZE, MUDDLE, or 0 for a permutation. The spots are by cell name: 20, which is no spot, for a name that stands nowhere, and zeros beside a refusal.
+pub struct Checked {
+    pub number: u8,
+    pub spots: [u8; 21],
+}
+
+fn without_spots(number: u8) -> Checked
+    ensures { λ r. ⌜ r ≡ withoutSpots number ⌝ }
+{
+    let spots = [0u8; 21];
+    Checked { number, spots }
+}
 
 fn all_zero(cells: &[u8; 20], n: usize) -> bool
     requires { ⌜ (n ≤ 20) × (length (now cells) ≡ 20) ⌝ }
@@ -39,16 +52,10 @@ fn ones_below(seen: u32, c: usize) -> u8
     u32::count_ones(seen % bit(c)) as u8
 }
 
-// `spots` is by cell name; entry 0 is unused.
-struct Spots {
-    once: bool,
-    spots: [u8; 21],
-}
-
-// Does each of 1 to n stand once in the first n places? Then the spots are those of 1 to n.
-fn spots_of(cells: &[u8; 20], n: usize) -> Spots
+// Does each of 1 to n stand once in the first n places? MUDDLE, or 0 and the spots.
+fn spots_of(cells: &[u8; 20], n: usize) -> Checked
     requires { ⌜ (n ≤ 20) × (length (now cells) ≡ 20) ⌝ }
-    ensures { λ r. ⌜ Spotted (take n (now (cells .entry))) n (r .once) (r .spots) ⌝ }
+    ensures { λ r. ⌜ r ≡ spotted n (take n (now (cells .entry))) ⌝ }
 {
     // 20 is no spot: a name not met yet
     let mut spots = [20u8; 21];
@@ -58,30 +65,24 @@ fn spots_of(cells: &[u8; 20], n: usize) -> Spots
     while i < n {
         let c = wide(cells[i]);
         if c == 0 {
-            return Spots { once: false, spots };
+            return without_spots(MUDDLE);
         }
         if n < c {
-            return Spots { once: false, spots };
+            return without_spots(MUDDLE);
         }
         if spots[c] != 20 {
-            return Spots { once: false, spots };
+            return without_spots(MUDDLE);
         }
         spots[c] = ones_below(seen, c);
         seen += bit(c);
         i += 1;
     }
-    Spots { once: true, spots }
+    Checked { number: 0, spots }
 }
 
-// SIZE, MUDDLE, or 0 for a permutation, and then its spots.
-pub struct Checked {
-    pub number: u8,
-    pub spots: [u8; 21],
-}
-
-// For other crates too. Where there is a number, nothing is said of the spots.
+// For other crates too.
 pub fn check(permutation: Permutation) -> Checked
-    ensures { λ r. ⌜ Checks permutation (r .number) (r .spots) ⌝ }
+    ensures { λ r. ⌜ r ≡ checked permutation ⌝ }
 {
     let n = permutation.n;
     let cells = permutation.cells;
@@ -91,20 +92,8 @@ pub fn check(permutation: Permutation) -> Checked
     if 20 < n {
         return without_spots(SIZE);
     }
-    let found = spots_of(&cells, n);
-    let once = found.once;
-    let spots = found.spots;
-    if once {
-        if all_zero(&cells, n) {
-            return Checked { number: 0, spots };
-        }
+    if all_zero(&cells, n) {
+        return spots_of(&cells, n);
     }
     without_spots(MUDDLE)
-}
-
-fn without_spots(number: u8) -> Checked
-    ensures { λ r. ⌜ r .number ≡ number ⌝ }
-{
-    let spots = [0u8; 21];
-    Checked { number, spots }
 }

@@ -12,12 +12,13 @@ use Rattle.theory.specs.Levels.{permutationOf}
 use Rattle.theory.specs.Prefix.{prefixNumber, prefixLength, symbolOf}
 use Rattle.theory.proofs.Prefixes.{coding}
 use Rattle.theory.proofs.Sorting.{permutationOf-permutation, permutationOf-length}
-use Rattle.permutation.specs.Records.{recordOf}
-use Rattle.permutation.specs.Spots.{HasSpots, Checks}
+use Rattle.permutation.specs.Spots.{checked, HasSpots}
 use Rattle.permutation.specs.declared.answers.Permutation.{Permutation}
 use Rattle.permutation.specs.declared.answers.Permuted.{Permuted}
-use Rattle.permutation.proofs.Records.{fault-record}
-use Rattle.permutation.proofs.Answering.{orElse-refused, list-record}
+use Rattle.permutation.specs.declared.validity.Checked.{Checked}
+use Rattle.permutation.proofs.Records.{sound, fault-record}
+use Rattle.permutation.proofs.Checking.{check-spots}
+use Rattle.permutation.proofs.Answering.{orElse-refused}
 use Rattle.charge.specs.Answers.{readNumber}
 use Rattle.charge.proofs.Numbers.{Readable, read-done}
 use Rattle.charge.proofs.Sorting.{row-long, row-first}
@@ -35,25 +36,25 @@ module _ {L : List ℕ} {r : Permuted} (s : Standing L r) where
   cells-first : take (length L) (r .permutation .cells) ≡ permutationOf L
   cells-first = row-first L (s .levels .many) cells-are
 
-  -- the check of the record finds its spots
-  spots-found : {number : ℕ} {spots : List ℕ} → Checks (r .permutation) number spots → HasSpots (permutationOf L) (length L) spots
-  spots-found {number} {spots} h =
-      let few = s .levels .few in
-      let many = s .levels .many in
-      let o = permutationOf-permutation L in
-      let c : Checks (recordOf (permutationOf L)) number spots = rw (s .is) at h in
-      rw (list-record (length L) (permutationOf L) few many o, permutationOf-length L) at
-      (c .found (c .right ∙ fault-record (length L) (permutationOf L) few many o))
+  cells-long : length (r .permutation .cells) ≡ 20
+  cells-long = row-long L (s .levels .many) cells-are
 
-  pub numbered : {number p m : ℕ} {spots : List ℕ} → Checks (r .permutation) number spots → length spots ≡ 21
-      → p ≡ prefixLength (length L) m → m ≤ factorial (length L) → Numbered (length L) p (r .permutation .cells) spots
+  -- the check of the record finds its spots
+  spots-found : {k : Checked} → k ≡ checked (r .permutation) → HasSpots (take (length L) (r .permutation .cells)) (length L) (k .spots)
+  spots-found h =
+      let size : r .permutation .n ≡ length L = ap (λ (p : Permutation). p .n) (s .is) ∙ permutationOf-length L in
+      let right = rw (s .is) (fault-record (length L) (permutationOf L) (s .levels .few) (s .levels .many) (permutationOf-permutation L)) in
+      rw size at (check-spots (r .permutation) h (sound (r .permutation) cells-long right))
+
+  pub numbered : {p m : ℕ} {k : Checked} → k ≡ checked (r .permutation) → length (k .spots) ≡ 21
+      → p ≡ prefixLength (length L) m → m ≤ factorial (length L) → Numbered (length L) p (r .permutation .cells) (k .spots)
   numbered {m = m} h long e fits = record {
     many = s .levels .many;
     within = omega (arith, coding (length L) m fits .at-most);
-    long = row-long L (s .levels .many) cells-are;
+    long = cells-long;
     spots-long = long;
     permutation = rw cells-first (permutationOf-permutation L);
-    has-spots = rw cells-first (spots-found h);
+    has-spots = spots-found h;
   }
 
   -- the number of the prefix is the symbol

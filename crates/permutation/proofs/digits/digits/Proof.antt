@@ -6,8 +6,9 @@ use native.Mathlib.Omega.{arith}
 use borrow.Author.Needs.{needs}
 use borrow.Author.Tests.{ne-eqb}
 use Rattle.permutation.specs.Answers.{digited}
-use Rattle.permutation.proofs.Records.{Sound, checked}
-use Rattle.permutation.proofs.Spots.{read-row}
+use Rattle.permutation.proofs.Records.{Sound}
+use Rattle.permutation.proofs.Checking.{check-number, check-sound, check-spots}
+use Rattle.permutation.proofs.Spots.{spots-low, read-row}
 use Rattle.permutation.proofs.digits.digits.Statement.{statement}
 use Rattle.permutation.proofs.digits.digits.Tie as tie
 
@@ -16,26 +17,26 @@ check-requires c κs = search needs
 
 returns : tie.Need-returns
 unfolding digited
-returns c = rw (← c .before .check .ensures .right, ne-eqb _ _ (c .if1 .taken))
+returns c = rw (← check-number _ (c .before .check .ensures), ne-eqb _ _ (c .if1 .taken))
 
 -- past the test, the record is a permutation's
 sound-now : (c : tie.Else1) → Sound (c .before .before .args .permutation)
-sound-now c = checked (search needs) (c .before .check .ensures) (c .if1 .left)
+sound-now c = check-sound _ (c .before .check .ensures) (search needs) (c .if1 .left)
 
 read-down-requires : tie.Need-read-down-requires
 read-down-requires c κs =
     let past = c .before .before .before in
-    (sound-now past .many, omega arith, omega arith, refl, past .before .check .ensures .low (past .if1 .left))
+    let s = sound-now past in
+    (s .many, omega arith, omega arith, refl, spots-low (s .many) (s .permutation) (check-spots _ (past .before .check .ensures) s))
 
 returns-2 : tie.Need-returns-2
 unfolding digited
 returns-2 c =
     let past = c .before .before .before .before in
-    let checked = past .before .check .ensures in
     let s = sound-now past in
     rw (s .fault)
     (ap (λ (l : List ℕ). record { number = 0; row = l })
-    (read-row (s .many) (s .permutation) (checked .found (past .if1 .left)) (c .read-down .ensures)))
+    (read-row (s .many) (s .permutation) (check-spots _ (past .before .check .ensures) s) (c .read-down .ensures)))
 
 pub digits-spec : {M : Type 1} → statement M
 digits-spec = tie.close (tie.spec check-requires returns read-down-requires returns-2)

@@ -3,7 +3,8 @@ use mathlib.Core.Path.{_∙_}
 use mathlib.Core.Logic.{inl, inr}
 use Prim.Native.Nat.{_≤_}
 use native.Mathlib.Omega.{arith}
-use Rattle.permutation.proofs.Records.{Sound, checked}
+use Rattle.permutation.proofs.Records.{Sound}
+use Rattle.permutation.proofs.Checking.{check-number, check-sound}
 use Rattle.permutation.proofs.Answering.{push-fault, push-outside, push-done}
 use borrow.Author.Needs.{needs}
 use Rattle.permutation.proofs.push.push.Statement.{statement}
@@ -17,12 +18,13 @@ refuse-requires c κs = search needs
 
 returns : tie.Need-returns
 returns c =
-    let checked = c .before .before in
-    c .refuse .ensures ∙ push-fault (checked .before .args .permutation) (checked .before .args .place) _ (checked .check .ensures .right) (c .before .if1 .taken)
+    let at = c .before .before in
+    c .refuse .ensures
+    ∙ push-fault (at .before .args .permutation) (at .before .args .place) _ (check-number _ (at .check .ensures)) (c .before .if1 .taken)
 
 -- past the first test, the record is a permutation's
 sound-now : (c : tie.Else1) → Sound (c .before .before .args .permutation)
-sound-now c = checked (search needs) (c .before .check .ensures) (c .if1 .left)
+sound-now c = check-sound _ (c .before .check .ensures) (search needs) (c .if1 .left)
 
 refuse-requires-2 : tie.Need-refuse-requires-2
 refuse-requires-2 c κs = search needs
@@ -41,17 +43,17 @@ returns-3 c =
     c .refuse3 .ensures
     ∙ push-outside (at .before .before .args .permutation) (at .before .before .args .place) (sound-now at .fault) (inr (c .before .before .if2 .left, c .before .if3 .taken))
 
-push-row-requires : tie.Need-push-row-requires
-push-row-requires c κs =
-    let many = sound-now (c .before .before .before .before) .many in
-    (omega arith, omega arith, search needs)
+pushed-row-requires : tie.Need-pushed-row-requires
+pushed-row-requires c κs =
+    let many = sound-now (c .before .before .before) .many in
+    (omega arith, omega arith)
 
 returns-4 : tie.Need-returns-4
 returns-4 c =
-    let at = c .before .before .before .before .before in
+    let at = c .before .before .before .before in
     let low : 2 ≤ at .before .before .args .place = search needs in
     let high : at .before .before .args .place ≤ at .before .before .args .permutation .n = search needs in
-    push-done (at .before .before .args .permutation) (at .before .before .args .place) _ (sound-now at) low high (c .push-row .ensures)
+    push-done (at .before .before .args .permutation) (at .before .before .args .place) _ (sound-now at) low high (c .pushed-row .ensures)
 
 pub push-spec : {M : Type 1} → statement M
 push-spec =
@@ -64,5 +66,5 @@ push-spec =
     returns-2
     refuse-requires-3
     returns-3
-    push-row-requires
+    pushed-row-requires
     returns-4)

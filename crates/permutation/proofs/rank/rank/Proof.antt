@@ -7,7 +7,7 @@ use Rattle.permutation.specs.Records.{listOf, faultOf}
 use Rattle.permutation.specs.Answers.{digited, ranked}
 use Rattle.permutation.specs.declared.answers.Digits.{Digits}
 use Rattle.permutation.proofs.Records.{Sound, sound}
-use Rattle.permutation.proofs.Values.{digits-bounded, row-value}
+use Rattle.permutation.proofs.Values.{digits-bounded, row-rank}
 use borrow.Author.Needs.{needs}
 use Rattle.permutation.proofs.rank.rank.Statement.{statement}
 use Rattle.permutation.proofs.rank.rank.Tie as tie
@@ -33,18 +33,18 @@ module _ (c : tie.Else1) where
   unfolding digited
   row-is = ap (λ (d : Digits). d .row) (c .before .digits .ensures) ∙ rw (sound-now .fault)
 
-value-of-requires : tie.Need-value-of-requires
-value-of-requires c κs =
-    let at = c .before .before in
+row-value-requires : tie.Need-row-value-requires
+row-value-requires c κs =
+    let at = c .before in
     let p = at .before .before .args .permutation in
     rw (row-is at) (digits-bounded (p .n) (listOf p) (sound-now at .many))
 
 returns-2 : tie.Need-returns-2
 unfolding ranked
 returns-2 c =
-    let at = c .before .before .before in
+    let at = c .before .before in
     let p = at .before .before .args .permutation in
-    rw (sound-now at .fault, c .value-of .ensures, row-is at, row-value (p .n) (listOf p) (sound-now at .many))
+    rw (sound-now at .fault, c .row-value .ensures, row-is at, row-rank (p .n) (listOf p) (sound-now at .many))
 
 pub rank-spec : {M : Type 1} → statement M
-rank-spec = tie.close (tie.spec digits-requires returns value-of-requires returns-2)
+rank-spec = tie.close (tie.spec digits-requires returns row-value-requires returns-2)

@@ -1,7 +1,8 @@
 -- `permutation::successor::successor` meets its contract. Assumes nothing.
 use borrow.Author.Tests.{ne-eqb}
 use Rattle.permutation.specs.Answers.{placed}
-use Rattle.permutation.proofs.Records.{Sound, checked}
+use Rattle.permutation.proofs.Records.{Sound}
+use Rattle.permutation.proofs.Checking.{check-number, check-sound}
 use borrow.Author.Needs.{needs}
 use Rattle.permutation.proofs.successor.successor.Statement.{statement}
 use Rattle.permutation.proofs.successor.successor.Tie as tie
@@ -11,11 +12,11 @@ check-requires c κs = search needs
 
 returns : tie.Need-returns
 unfolding placed
-returns c = rw (← c .before .check .ensures .right, ne-eqb _ _ (c .if1 .taken))
+returns c = rw (← check-number _ (c .before .check .ensures), ne-eqb _ _ (c .if1 .taken))
 
 -- past the test, the record is a permutation's
 sound-now : (c : tie.Else1) → Sound (c .before .before .args .permutation)
-sound-now c = checked (search needs) (c .before .check .ensures) (c .if1 .left)
+sound-now c = check-sound _ (c .before .check .ensures) (search needs) (c .if1 .left)
 
 next-place-requires : tie.Need-next-place-requires
 next-place-requires c κs = (sound-now (c .before .before) .many, search needs)

@@ -40,15 +40,15 @@ returns-3 c =
     let a = c .before .before .before .before .before .args in
     c .refuse3 .ensures ∙ rw (le-leb 2 (a .n) (omega arith), le-leb (a .n) 20 (omega arith), le-ltb (a .rank) (factorial (a .n)) (omega arith))
 
-fill-requires : tie.Need-fill-requires
-fill-requires c κs = search needs
+filled-row-requires : tie.Need-filled-row-requires
+filled-row-requires c κs = search needs
 
 returns-4 : tie.Need-returns-4
 unfolding unranked unrankNumber
 returns-4 c =
-    let a = c .before .before .before .before .before .before .args in
+    let a = c .before .before .before .before .before .args in
     rw (le-leb 2 (a .n) (omega arith), le-leb (a .n) 20 (omega arith), lt-ltb (a .rank) (factorial (a .n)) (omega arith))
-    (ap (λ (p : Permutation). record { number = 0; permutation = p }) (unrank-record (a .n) (a .rank) _ (omega arith) (c .fill .ensures)))
+    (ap (λ (p : Permutation). record { number = 0; permutation = p }) (unrank-record (a .n) (a .rank) _ (omega arith) (c .filled-row .ensures)))
 
 pub unrank-spec : {M : Type 1} → statement M
 unrank-spec =
@@ -61,5 +61,5 @@ unrank-spec =
     factorial-requires
     refuse-requires-3
     returns-3
-    fill-requires
+    filled-row-requires
     returns-4)

@@ -1,12 +1,12 @@
 -- `permutation::validity::spots_of` meets its contract. The loop's invariant: the names of the first i places were met. Assumes nothing.
-use mathlib.Core.Path.{_≡_, subst}
-use mathlib.Core.Bool.{true}
+use mathlib.Core.Path.{_≡_, subst, _∙_}
 use Prim.Native.Nat.{ℕ, _-_, _≤_}
 use native.Mathlib.Omega.{arith}
 use borrow.Author.Needs.{needs}
 use lib.ListN.{take}
 use lib.Seq.{length-take-le}
-use Rattle.permutation.specs.Spots.{Spotted}
+use Rattle.permutation.specs.Spots.{spotted}
+use Rattle.permutation.specs.declared.validity.Checked.{Checked}
 use Rattle.permutation.proofs.Meeting.{Met, Turn, met-start, met-outside, met-twice, met-fits, met-turn, met-all}
 use Rattle.permutation.proofs.validity.spots_of.Statement.{statement}
 use Rattle.permutation.proofs.validity.spots_of.Tie as tie
@@ -32,19 +32,29 @@ turn c =
     let at = c .before .before .before in
     record { few = at .before .pre .0; long = at .before .pre .1; more = c .before .before .loop-test .taken; is = c .wide .ensures }
 
+without-spots-requires : tie.Need-without-spots-requires Inv-loop μ-loop
+without-spots-requires c κs = search needs
+
 returns : tie.Need-returns Inv-loop μ-loop
-returns c = met-outside (turn (c .before)) _ (λ b. omega (arith, b .0))
+returns c = c .without-spots .ensures ∙ met-outside (turn (c .before .before)) (λ b. omega (arith, b .0))
+
+without-spots-requires-2 : tie.Need-without-spots-requires-2 Inv-loop μ-loop
+without-spots-requires-2 c κs = search needs
 
 returns-2 : tie.Need-returns-2 Inv-loop μ-loop
-returns-2 c = met-outside (turn (c .before .before)) _ (λ b. omega (arith, b .1))
+returns-2 c = c .without-spots2 .ensures ∙ met-outside (turn (c .before .before .before)) (λ b. omega (arith, b .1))
 
 array-read-if3 : tie.Need-array-read-if3 Inv-loop μ-loop
 array-read-if3 c = search needs
 
+without-spots-requires-3 : tie.Need-without-spots-requires-3 Inv-loop μ-loop
+without-spots-requires-3 c κs = search needs
+
 returns-3 : tie.Need-returns-3 Inv-loop μ-loop
 returns-3 c =
-    let got = c .before .before .before in
-    met-twice (turn got) (got .before .before .before .loop .inv .1) (omega arith) (omega arith) (c .if3 .taken)
+    let got = c .before .before .before .before in
+    c .without-spots3 .ensures
+    ∙ met-twice (turn got) (got .before .before .before .loop .inv .1) (omega arith) (omega arith) (c .before .if3 .taken)
 
 ones-below-requires : tie.Need-ones-below-requires Inv-loop μ-loop
 ones-below-requires c κs = search needs
@@ -79,7 +89,7 @@ returns-4 c =
     let at = c .before in
     let a = at .before .args in
     let all : at .loop .i ≡ a .n = omega arith in
-    subst (λ (k : ℕ). Spotted (take k (a .cells .now)) (a .n) true (at .loop .spots)) all
+    subst (λ (k : ℕ). _≡_ {A = Checked} (record { number = 0; spots = at .loop .spots }) (spotted (a .n) (take k (a .cells .now)))) all
     (met-all (at .loop .inv .1) (at .before .pre .0) (omega (arith, length-take-le (at .loop .i) (a .cells .now) (omega arith))))
 
 pub spots-of-spec : {M : Type 1} → statement M
@@ -91,9 +101,12 @@ spots-of-spec =
     loop-holds
     element-copy-out-wide
     wide-requires
+    without-spots-requires
     returns
+    without-spots-requires-2
     returns-2
     array-read-if3
+    without-spots-requires-3
     returns-3
     ones-below-requires
     array-write-spots

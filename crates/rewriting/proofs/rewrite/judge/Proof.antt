@@ -4,6 +4,7 @@ use native.Mathlib.Omega.{arith}
 use borrow.Author.Needs.{needs}
 use Rattle.theory.specs.Reasons.{size}
 use Rattle.permutation.specs.Records.{faultOf}
+use Rattle.permutation.proofs.Checking.{check-number}
 use Rattle.charge.specs.Answers.{readNumber}
 use Rattle.rewriting.proofs.Judging.{group-few, judge-group-size, judge-target-size, judge-other, judge-short, judge-muddle, judge-group}
 use Rattle.rewriting.proofs.rewrite.judge.Statement.{statement}
@@ -14,7 +15,7 @@ group-ok : (c : tie.Else1) → readNumber (c .before .before .before .args .leve
 group-ok c z = c .if1 .left (c .before .fault .ensures ∙ z)
 
 target-ok : (c : tie.Else2) → faultOf (c .before .before .before .before .before .args .target) ≡ size → ⊥
-target-ok c z = c .if2 .left (c .before .check .ensures .right ∙ z)
+target-ok c z = c .if2 .left (check-number _ (c .before .check .ensures) ∙ z)
 
 fault-requires : tie.Need-fault-requires
 fault-requires c κs = search needs
@@ -26,7 +27,7 @@ check-requires : tie.Need-check-requires
 check-requires c κs = search needs
 
 returns-2 : tie.Need-returns-2
-returns-2 c = judge-target-size _ _ _ (sym (c .before .check .ensures .right) ∙ c .if2 .taken)
+returns-2 c = judge-target-size _ _ _ (sym (check-number _ (c .before .check .ensures)) ∙ c .if2 .taken)
 
 returns-3 : tie.Need-returns-3
 returns-3 c =
@@ -44,17 +45,17 @@ returns-4 c =
 returns-5 : tie.Need-returns-5
 returns-5 c =
     let at = c .before .before .before .before in
-    let checked = at .before .check .ensures .right in
-    checked
+    let fault = check-number _ (at .before .check .ensures) in
+    fault
     ∙ judge-muddle _ _ _ (group-ok (at .before .before)) (target-ok at) (c .before .before .if3 .left) (c .before .if4 .left)
-    (λ z. c .if5 .taken (checked ∙ z))
+    (λ z. c .if5 .taken (fault ∙ z))
 
 returns-6 : tie.Need-returns-6
 returns-6 c =
     let at = c .before .before .before .before in
     at .before .before .before .fault .ensures
     ∙ judge-group _ _ _ (group-ok (at .before .before)) (target-ok at) (c .before .before .if3 .left) (c .before .if4 .left)
-    (sym (at .before .check .ensures .right) ∙ c .if5 .left)
+    (sym (check-number _ (at .before .check .ensures)) ∙ c .if5 .left)
 
 pub judge-spec : {M : Type 1} → statement M
 judge-spec =

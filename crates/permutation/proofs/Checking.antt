@@ -1,0 +1,40 @@
+-- The check of a record: what its ways out answer, and what its callers have of it. Assumes nothing.
+use mathlib.Core.Path.{_≡_, sym, ap, _∙_}
+use mathlib.Core.Bool.{true, and-true}
+use mathlib.Core.List.{List}
+use Prim.Native.Nat.{ℕ, _≤_}
+use borrow.Author.Tests.{ne-eqb, le-leb}
+use lib.ListN.{length, drop}
+use Rattle.permutation.specs.Records.{listOf, onceEach, allZero, faultOf}
+use Rattle.permutation.specs.Spots.{withoutSpots, spotted, checked, HasSpots}
+use Rattle.permutation.specs.declared.answers.Permutation.{Permutation}
+use Rattle.permutation.specs.declared.validity.Checked.{Checked}
+use Rattle.permutation.proofs.Records.{Sound, sound}
+use Rattle.permutation.proofs.Spots.{row-has-spots}
+
+-- ---- its ways out
+module _ (p : Permutation) where
+  pub check-refused : {number : ℕ} → number ≡ faultOf p → (number ≡ 0 → ⊥) → withoutSpots number ≡ checked p
+  unfolding checked
+  check-refused e ne = rw (← e, ne-eqb _ 0 ne)
+
+  -- n is in its range, and nothing stands past n: the pass over the names decides
+  pub check-names : 2 ≤ p .n → p .n ≤ 20 → allZero (drop (p .n) (p .cells)) ≡ true → spotted (p .n) (listOf p) ≡ checked p
+  unfolding spotted checked faultOf
+  check-names low high zeros =
+      rw (le-leb 2 (p .n) low, le-leb (p .n) 20 high, zeros, and-true (onceEach (p .n) (listOf p)))
+
+-- ---- what it answered
+module _ (p : Permutation) {r : Checked} (e : r ≡ checked p) where
+  pub check-number : r .number ≡ faultOf p
+  unfolding checked
+  check-number = ap (λ (k : Checked). k .number) e
+
+  pub check-sound : length (p .cells) ≡ 20 → r .number ≡ 0 → Sound p
+  check-sound long z = sound p long (sym check-number ∙ z)
+
+  pub check-spots : Sound p → HasSpots (listOf p) (p .n) (r .spots)
+  unfolding checked
+  check-spots s =
+      let row = ap (λ (k : Checked). k .spots) e in
+      rw (row, s .fault) (row-has-spots (s .many) (s .permutation))
