@@ -1,4 +1,5 @@
--- `permutation::digits::passed_up` meets its contract: each arm goes by its test. Assumes nothing.
+-- `permutation::digits::passed_up` meets its contract: each arm goes by its test, and then by arithmetic. Assumes nothing.
+use native.Mathlib.Omega.{arith}
 use borrow.Author.Needs.{needs}
 use borrow.Author.Tests.{lt-ltb, le-ltb}
 use Rattle.permutation.specs.Spots.{passed}
@@ -22,11 +23,11 @@ sub-result-4 c = search needs
 
 returns : tie.Need-returns
 unfolding passed
-returns c = rw (lt-ltb _ _ (c .if1 .taken))
+returns c = rw (lt-ltb _ _ (c .if1 .taken)) (omega arith)
 
 returns-2 : tie.Need-returns-2
 unfolding passed
-returns-2 c = rw (le-ltb _ _ (c .if1 .left))
+returns-2 c = rw (le-ltb _ _ (c .if1 .left)) (omega arith)
 
 pub passed-up-spec : {M : Type 1} → statement M
 passed-up-spec =

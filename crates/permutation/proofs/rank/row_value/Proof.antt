@@ -52,7 +52,7 @@ turn c =
     let few = at .before .pre .few in
     let long : length row ≡ 20 = search needs in
     let room : n ≤ length row = omega arith in
-    let more : m < n = c .before .loop-test .taken in
+    let more : m < n = omega arith in
     let small : d < suc m = omega (arith, is-d, at .before .pre .small (n - 1 - m) (omega arith)) in
     let v = at .loop .inv in
     rw (add-one m) (
