@@ -12,6 +12,7 @@ use Rattle.theory.specs.Levels.{permutationOf}
 use Rattle.theory.specs.Prefix.{prefixNumber, prefixLength, symbolOf}
 use Rattle.theory.proofs.Prefixes.{coding}
 use Rattle.theory.proofs.Sorting.{permutationOf-permutation, permutationOf-length}
+use Rattle.permutation.specs.Records.{faultOf}
 use Rattle.permutation.specs.Spots.{checked, HasSpots}
 use Rattle.permutation.specs.declared.answers.Permutation.{Permutation}
 use Rattle.permutation.specs.declared.answers.Permuted.{Permuted}
@@ -43,7 +44,8 @@ module _ {L : List ℕ} {r : Permuted} (s : Standing L r) where
   spots-found : {k : Checked} → k ≡ checked (r .permutation) → HasSpots (take (length L) (r .permutation .cells)) (length L) (k .spots)
   spots-found h =
       let size : r .permutation .n ≡ length L = ap (λ (p : Permutation). p .n) (s .is) ∙ permutationOf-length L in
-      let right = rw (s .is) (fault-record (length L) (permutationOf L) (s .levels .few) (s .levels .many) (permutationOf-permutation L)) in
+      let right : faultOf (r .permutation) ≡ 0 =
+      rw (s .is) (fault-record (length L) (permutationOf L) (s .levels .few) (s .levels .many) (permutationOf-permutation L)) in
       rw size at (check-spots (r .permutation) h (sound (r .permutation) cells-long right))
 
   pub numbered : {p m : ℕ} {k : Checked} → k ≡ checked (r .permutation) → length (k .spots) ≡ 21
