@@ -1,7 +1,6 @@
 -- The check of a record: what its ways out answer, and what its callers have of it. Assumes nothing.
 use mathlib.Core.Path.{_≡_, sym, ap, _∙_}
 use mathlib.Core.Bool.{true, and-true}
-use mathlib.Core.List.{List}
 use Prim.Native.Nat.{ℕ, _≤_}
 use borrow.Author.Tests.{ne-eqb, le-leb}
 use lib.ListN.{length, drop}

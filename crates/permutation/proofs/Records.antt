@@ -67,7 +67,7 @@ module _ (p : Permutation) where
     unfolding faultOf
     fault-muddle e = rw (le-leb 2 (p .n) low, le-leb (p .n) 20 high, e)
 
-    pub fault-none : (onceEach (p .n) (listOf p) && allZero (drop (p .n) (p .cells))) ≡ true → done ≡ faultOf p
+    fault-none : (onceEach (p .n) (listOf p) && allZero (drop (p .n) (p .cells))) ≡ true → done ≡ faultOf p
     unfolding faultOf
     fault-none e = rw (le-leb 2 (p .n) low, le-leb (p .n) 20 high, e)
 

@@ -20,7 +20,7 @@ pub fn push_row(cells: &mut [u8; 20], place: usize)
     put_in(cells, place - 1, 0, c);
 }
 
-// By value: the row pushed.
+// By value: a row goes in and comes back pushed.
 fn pushed_row(cells: [u8; 20], place: usize) -> [u8; 20]
     requires { ⌜ (1 ≤ place) × (place ≤ 20) ⌝ }
     ensures { λ r. ⌜ r ≡ meaning.push place cells ⌝ }

@@ -9,7 +9,7 @@ use super::answers::Ranked;
 use super::cell::wide_digit;
 use super::digits::digits;
 
-// A nested product, the last digit first. The row goes by value.
+// By value: a row of digits goes in. A nested product, the last digit first.
 fn row_value(row: [u8; 20], n: usize) -> u64
     requires { ⌜ Bounded row n ⌝ }
     ensures { λ r. ⌜ r ≡ meaning.digitValue n (take n row) ⌝ }

@@ -50,7 +50,7 @@ fn fill(cells: &mut [u8; 20], down: bool, m: usize, s: usize, rank: u64)
     }
 }
 
-// By value: the row with the cells of the rank in its first n places.
+// By value: a row goes in and comes back with the cells of the rank in its first n places.
 fn filled_row(cells: [u8; 20], n: usize, rank: u64) -> [u8; 20]
     requires { ⌜ n ≤ 20 ⌝ }
     ensures { λ r. ⌜ r ≡ cellsBySpots true n 0 rank ++ drop n cells ⌝ }
