@@ -11,4 +11,5 @@ pub mod Spots
 pub mod Meeting
 pub mod Checking
 pub mod Values
+pub mod Table
 pub mod Filling

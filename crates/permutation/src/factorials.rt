@@ -1,7 +1,6 @@
 // The factorials of 0 to 20, as a table: all fit 64 bits.
 ghost use mathlib.Core.Path.{_≡_};
-ghost use Prim.Native.Nat.{_≤_};
-ghost use Rattle.theory.specs.Factorial as meaning;
+ghost use Rattle.permutation.specs.Factorials.{factorialTable, factorialWithin};
 
 const FACTORIALS: [u64; 21] = [
     1,
@@ -27,10 +26,20 @@ const FACTORIALS: [u64; 21] = [
     2432902008176640000,
 ];
 
-// For other crates too: it asks for an n of the table.
-pub fn factorial(n: usize) -> u64
-    requires { ⌜ n ≤ 20 ⌝ }
-    ensures { λ r. ⌜ r ≡ meaning.factorial n ⌝ }
+// The table by value: a job that looks up more than one factorial makes it once.
+pub fn factorial_table() -> [u64; 21]
+    ensures { λ r. ⌜ r ≡ factorialTable ⌝ }
 {
-    FACTORIALS[n]
+    FACTORIALS
+}
+
+// n!, and 0 past 20!.
+pub fn factorial(n: usize) -> u64
+    ensures { λ r. ⌜ r ≡ factorialWithin n ⌝ }
+{
+    if 20 < n {
+        return 0;
+    }
+    let table = factorial_table();
+    table[n]
 }

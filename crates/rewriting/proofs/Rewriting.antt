@@ -85,14 +85,15 @@ module _ {L : List ℕ} {target : Permutation} {room : ℕ} (j : Judged L target
         ap reverse (sym (take-take r (target .n) (target .cells) (omega (arith, number-below, j .same))))
         ∙ ap (λ (k : ℕ). reverse (take k (listOf target))) is
 
-    pub pushable : length (target .cells) ≡ 20 → Pushable (length L) (target .cells) r
-    pushable long = record {
-      long = long;
-      few = omega (arith, number-below, j .readable .many);
-      named = λ i h.
-          let b = entry-inside target-is i (omega (arith, number-below, target-is .long)) in
-          rw (getD-take (target .n) (target .cells) i 0 (omega (arith, number-below, j .same))) at b;
-    }
+  -- the first cells of the target, so many as a rewrite may push
+  pub pushable : {r : ℕ} → length (target .cells) ≡ 20 → r ≤ length L - 1 → Pushable (length L) (target .cells) r
+  pushable {r} long below = record {
+    long = long;
+    few = omega (arith, j .readable .many);
+    named = λ i h.
+        let b = entry-inside target-is i (omega (arith, target-is .long)) in
+        rw (getD-take (target .n) (target .cells) i 0 (omega (arith, j .same))) at b;
+  }
 
   -- the levels that the pushes leave are read as the target
   rewrite-read : {L′ : List ℕ} {r : ℕ} → length (target .cells) ≡ 20 → L′ ≡ pushLevels (rewritePushes (permutationOf L) (listOf target)) L
@@ -137,39 +138,38 @@ module _ (L : List ℕ) (target : Permutation) (list : List ℕ) where
   unfolding rewriteReason
   rewrite-fault e ne = rewrite-refused (orElse-refused (rewriteFault L target (length list)) _ e ne) ne
 
-  module _ (j : Judged L target (length list)) {r : ℕ} (is : r ≡ pushesTo L target) where
+  -- the answer of r pushes is that of the job where r is its number of pushes, and the list gets their names where it is done
+  module _ (j : Judged L target (length list)) (long : length (target .cells) ≡ 20) {r : ℕ} {a : Pushes} {L′ : List ℕ}
+      (k : (a ≡ pushesOf (ceilingOf L r) r) × (L′ ≡ raised L (target .cells) r)) (is : r ≡ pushesTo L target) where
     reason-is : rewriteReason L target (length list) ≡ ceilingOf L r
     unfolding rewriteReason
     reason-is = rw (j .none, is)
 
-    -- the answer of the pushes is that of the job, and the list gets their names where it is done
-    module _ {a : Pushes} {L′ : List ℕ} (k : (a ≡ pushesOf (ceilingOf L r) r) × (L′ ≡ raised L (target .cells) r)) where
-      number-is : a .number ≡ ceilingOf L r
-      number-is = ap (λ (b : Pushes). b .number) (k .0)
+    number-is : a .number ≡ ceilingOf L r
+    number-is = ap (λ (b : Pushes). b .number) (k .0)
 
-      names : List ℕ
-      names = reverse (take r (target .cells)) ++ drop r list
+    names : List ℕ
+    names = reverse (take r (target .cells)) ++ drop r list
 
-      module _ (long : length (target .cells) ≡ 20) where
-        answered : {list′ : List ℕ} → list′ ≡ given (ceilingOf L r) names list → Answered L target list a L′ list′
-        unfolding rewritten rewriteLevels rewriteList raised names
-        answered list-is =
-            let left : L′ ≡ given (ceilingOf L r) (pushLevels (rewritePushes (permutationOf L) (listOf target)) L) L = k .1 ∙ rw (pushes-are j is) in (
-              k .0 ∙ rw (reason-is, is),
-              (
-                left ∙ rw reason-is,
-                (
-                  list-is ∙ rw (reason-is, pushes-are j is, is),
-                  λ z.
-                      let done : L′ ≡ _ = left ∙ given-done (ceilingOf L r) _ L (sym number-is ∙ z) in
-                      rewrite-read j long done (ap (λ (b : Pushes). b .pushes) (k .0) ∙ given-done (ceilingOf L r) r 0 (sym number-is ∙ z) ∙ is),
-                ),
-              ),
-            )
+    answered : {list′ : List ℕ} → list′ ≡ given (ceilingOf L r) names list → Answered L target list a L′ list′
+    unfolding rewritten rewriteLevels rewriteList raised names
+    answered list-is =
+        let left : L′ ≡ given (ceilingOf L r) (pushLevels (rewritePushes (permutationOf L) (listOf target)) L) L = k .1 ∙ rw (pushes-are j is) in (
+          k .0 ∙ rw (reason-is, is),
+          (
+            left ∙ rw reason-is,
+            (
+              list-is ∙ rw (reason-is, pushes-are j is, is),
+              λ z.
+                  let done : L′ ≡ _ = left ∙ given-done (ceilingOf L r) _ L (sym number-is ∙ z) in
+                  rewrite-read j long done (ap (λ (b : Pushes). b .pushes) (k .0) ∙ given-done (ceilingOf L r) r 0 (sym number-is ∙ z) ∙ is),
+            ),
+          ),
+        )
 
-        pub rewrite-done : {list′ : List ℕ} → a .number ≡ 0 → list′ ≡ reverse (take r (target .cells)) ++ drop r list → Answered L target list a L′ list′
-        unfolding names
-        rewrite-done z list-is = answered (list-is ∙ sym (given-done (ceilingOf L r) _ list (sym number-is ∙ z)))
+    pub rewrite-done : {list′ : List ℕ} → a .number ≡ 0 → list′ ≡ reverse (take r (target .cells)) ++ drop r list → Answered L target list a L′ list′
+    unfolding names
+    rewrite-done z list-is = answered (list-is ∙ sym (given-done (ceilingOf L r) _ list (sym number-is ∙ z)))
 
-        pub rewrite-ceiling : (a .number ≡ 0 → ⊥) → Answered L target list a L′ list
-        rewrite-ceiling ne = answered (sym (given-refused (ceilingOf L r) _ list (λ z. ne (number-is ∙ z))))
+    pub rewrite-ceiling : (a .number ≡ 0 → ⊥) → Answered L target list a L′ list
+    rewrite-ceiling ne = answered (sym (given-refused (ceilingOf L r) _ list (λ z. ne (number-is ∙ z))))

@@ -130,7 +130,19 @@ module _ {L : List ℕ} {m s : ℕ} {standing : Permuted} {found : Prefixed} (f 
     rw (f .prefix-is) (padding (prefixOn L m s) (prefix-few (f .job)) .long),
   )
 
-  -- r cells of its row are pushed
+  -- its first cells
+  pub found-pushable : {r : ℕ} → r ≤ found .length → Pushable (length L) (found .cells) r
+  found-pushable {r} h =
+      let q : List ℕ = prefixOn L m s in
+      let p : found .length ≡ length q = f .length-is ∙ sym (is-prefix (f .job) .long) in
+      record {
+        long = found-lengths .1;
+        few = omega (arith, found-lengths .0);
+        named = λ i l.
+            let within : i < length q = omega arith in
+            rw (f .prefix-is, row-at q i within) (is-prefix (f .job) .named (getD q i 0) (member-getD q i within));
+      }
+
   module _ {r : ℕ} (e : r ≡ unpassed (found .cells) (found .length) (getD (standing .permutation .cells) 0 0)) where
     by-rule : Rule (prefixOn L m s) (permutationOf L) r
     by-rule =
@@ -139,32 +151,26 @@ module _ {L : List ℕ} {m s : ℕ} {standing : Permuted} {found : Prefixed} (f 
         rule (prefixOn L m s) (permutationOf L) (permutation-distinct o) (is-prefix (f .job) .distinct) (prefix-among (is-prefix (f .job)) o)
         (e ∙ rw (f .prefix-is, f .length-is, top-is, is-prefix (f .job) .long))
 
-    pub found-pushable : Pushable (length L) (found .cells) r
-    found-pushable =
-        let q : List ℕ = prefixOn L m s in
-        record {
-          long = found-lengths .1;
-          few = omega (arith, by-rule .most, prefix-few (f .job));
-          named = λ i h.
-              let within : i < length q = omega (arith, by-rule .most) in
-              rw (f .prefix-is, row-at q i within) (is-prefix (f .job) .named (getD q i 0) (member-getD q i within));
-        }
+    pub unpassed-below : r ≤ found .length
+    unpassed-below = omega (arith, by-rule .most, f .length-is, is-prefix (f .job) .long)
 
+  -- the answer of r pushes is that of the job where r is the number of its cells that are not passed over
+  module _ {r : ℕ} {a : Pushes} {L′ : List ℕ} (k : (a ≡ pushesOf (ceilingOf L r) r) × (L′ ≡ raised L (found .cells) r))
+      (e : r ≡ unpassed (found .cells) (found .length) (getD (standing .permutation .cells) 0 0)) where
     -- they are the pushes of the storing rule
     pushes-are : reverse (take r (found .cells)) ≡ storePushes (prefixOn L m s) (permutationOf L)
     pushes-are =
         let q : List ℕ = prefixOn L m s in
-        rw (f .prefix-is, take-append-le r q (replicate (20 - length q) 0) (by-rule .most)) (by-rule .first)
+        rw (f .prefix-is, take-append-le r q (replicate (20 - length q) 0) (by-rule e .most)) (by-rule e .first)
 
     reason-count : storeReason L m s ≡ ceilingOf L r
-    reason-count = reason-is (f .job) ∙ rw (by-rule .count)
+    reason-count = reason-is (f .job) ∙ rw (by-rule e .count)
 
-    -- their answer is that of the job
-    pub found-stored : {a : Pushes} {L′ : List ℕ} → (a ≡ pushesOf (ceilingOf L r) r) × (L′ ≡ raised L (found .cells) r) → Answered L m s a L′
+    pub found-stored : Answered L m s a L′
     unfolding stored storeLevels raised
-    found-stored {a} {L′} k =
+    found-stored =
         let left : L′ ≡ given (ceilingOf L r) (pushLevels (storePushes (prefixOn L m s) (permutationOf L)) L) L = k .1 ∙ rw pushes-are in (
-          k .0 ∙ rw (reason-count, by-rule .count),
+          k .0 ∙ rw (reason-count, by-rule e .count),
           (
             left ∙ rw reason-count,
             λ z.

@@ -10,7 +10,7 @@ ghost use Rattle.rewriting.specs.Answers.{prefixed};
 use super::answers::Prefixed;
 use super::prefix_length::falling;
 use super::prefix_length::prefix_length;
-use permutation::factorials::factorial;
+use permutation::factorials::factorial_table;
 use permutation::insert::put_in;
 use permutation::reasons::SIZE;
 use permutation::reasons::VALUE;
@@ -28,12 +28,12 @@ fn name_cells(cells: &mut [u8; 20], n: usize)
 }
 
 // The names 1 to n stand in the first n places. Those of prefix number s come to the front: the digits of s choose one name after
-// another among those that are left, which stay in their sequence.
-fn choose(cells: &mut [u8; 20], n: usize, p: usize, s: u64)
-    requires { ⌜ (n ≤ 20) × (p ≤ n) × (s < factorials.falling n p) × (length (now cells) ≡ 20) × (take n (now cells) ≡ names n) ⌝ }
+// another among those that are left, which stay in their sequence. There are `count` prefixes of length p.
+fn choose(cells: &mut [u8; 20], n: usize, p: usize, count: u64, s: u64)
+    requires { ⌜ (n ≤ 20) × (p ≤ n) × (count ≡ factorials.falling n p) × (s < count) × (length (now cells) ≡ 20) × (take n (now cells) ≡ names n) ⌝ }
     ensures { λ _. ⌜ now (cells .exit) ≡ meaning.prefixAt n p s ++ (without (meaning.prefixAt n p s) (names n) ++ drop n (now (cells .entry))) ⌝ }
 {
-    let mut weight = falling(n, p);
+    let mut weight = count;
     let mut rest = s;
     let mut i: usize = 0;
     while i < p {
@@ -78,17 +78,19 @@ pub fn prefix(n: usize, m: u64, symbol: u64) -> Prefixed
     if 20 < n {
         return no_prefix(SIZE);
     }
-    if factorial(n) < m {
+    let table = factorial_table();
+    if table[n] < m {
         return no_prefix(VALUE);
     }
     // an m of 0 as well: it has no symbol
     if m <= symbol {
         return no_prefix(VALUE);
     }
-    let length = prefix_length(n, m);
+    let length = prefix_length(&table, n, m);
+    let count = falling(&table, n, length);
     let mut cells = [0u8; 20];
     name_cells(&mut cells, n);
-    choose(&mut cells, n, length, symbol);
+    choose(&mut cells, n, length, count, symbol);
     clear_from(&mut cells, length);
     Prefixed {
         number: 0,

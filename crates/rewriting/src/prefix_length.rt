@@ -1,30 +1,26 @@
-// The length of the prefixes of a code.
+// The length of the prefixes of a code, by the table of factorials, which a job makes once.
 ghost use mathlib.Core.Path.{_≡_};
 ghost use Prim.Native.Nat.{_≤_};
 ghost use Rattle.theory.specs.Factorial as factorials;
 ghost use Rattle.theory.specs.Prefix as meaning;
-use permutation::factorials::factorial;
+ghost use Rattle.permutation.specs.Factorials.{factorialTable};
 
-// n!/(n-p)!, how many prefixes of length p there are, by the table of factorials. It fits 64 bits as n! does.
-pub fn falling(n: usize, p: usize) -> u64
-    requires { ⌜ (n ≤ 20) × (p ≤ n) ⌝ }
+// n!/(n-p)!, how many prefixes of length p there are. It fits 64 bits as n! does.
+pub fn falling(table: &[u64; 21], n: usize, p: usize) -> u64
+    requires { ⌜ (now table ≡ factorialTable) × (n ≤ 20) × (p ≤ n) ⌝ }
     ensures { λ r. ⌜ r ≡ factorials.falling n p ⌝ }
 {
-    factorial(n) / factorial(n - p)
+    table[n] / table[n - p]
 }
 
-// The smallest p with n!/(n-p)! at least m. As p rises by 1, the quotient gets one factor more: the search takes neither table nor division.
-pub fn prefix_length(n: usize, m: u64) -> usize
-    requires { ⌜ n ≤ 20 ⌝ }
+// The smallest p with n!/(n-p)! at least m, which is to say (n-p)! at most n!/m: one division serves the whole search.
+pub fn prefix_length(table: &[u64; 21], n: usize, m: u64) -> usize
+    requires { ⌜ (now table ≡ factorialTable) × (n ≤ 20) × (1 ≤ m) × (m ≤ factorials.factorial n) ⌝ }
     ensures { λ r. ⌜ r ≡ meaning.prefixLength n m ⌝ }
 {
-    let mut prefixes: u64 = 1;
+    let limit = table[n] / m;
     let mut p: usize = 0;
-    while p < n {
-        if m <= prefixes {
-            return p;
-        }
-        prefixes = prefixes * ((n - p) as u64);
+    while limit < table[n - p] {
         p += 1;
     }
     p

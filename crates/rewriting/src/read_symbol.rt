@@ -5,7 +5,7 @@ use super::answers::Symbol;
 use super::number::prefix_number;
 use super::prefix_length::prefix_length;
 use charge::read::read;
-use permutation::factorials::factorial;
+use permutation::factorials::factorial_table;
 use permutation::reasons::IDLE;
 use permutation::reasons::VALUE;
 use permutation::validity::check;
@@ -27,7 +27,8 @@ pub fn read_symbol(levels: &[u16], m: u64) -> Symbol
             symbol: 0,
         };
     }
-    if factorial(n) < m {
+    let table = factorial_table();
+    if table[n] < m {
         return Symbol {
             number: VALUE,
             symbol: 0,
@@ -36,7 +37,7 @@ pub fn read_symbol(levels: &[u16], m: u64) -> Symbol
     let cells = standing.permutation.cells;
     // it is a permutation: only its spots are wanted
     let spots = check(standing.permutation).spots;
-    let symbol = prefix_number(&cells, &spots, n, prefix_length(n, m));
+    let symbol = prefix_number(&cells, &spots, n, prefix_length(&table, n, m));
     if m <= symbol {
         return Symbol {
             number: IDLE,

@@ -26,13 +26,6 @@ pub falling-pos : (n p : ℕ) → p ≤ n → 1 ≤ falling n p
 falling-pos n zero l = omega arith
 falling-pos n (suc p) l = omega (arith, mul-le-mul-left n (falling-pos (n - 1) p (omega arith)))
 
--- one factor more, the lowest
-pub falling-more : (n p : ℕ) → falling n (suc p) ≡ falling n p * (n - p)
-falling-more n zero = omega arith
-falling-more n (suc p) =
-    let less : n - 1 - p ≡ n - suc p = omega arith in
-    ap (λ (x : ℕ). n * x) (falling-more (n - 1) p ∙ rw less) ∙ sym (mul-assoc n (falling (n - 1) p) (n - suc p))
-
 falling-factorial : (n p : ℕ) → p ≤ n → falling n p * factorial (n - p) ≡ factorial n
 falling-factorial n zero l = let q : n - 0 ≡ n = omega arith in rw q (omega arith)
 falling-factorial zero (suc p) l = absurd (omega arith)

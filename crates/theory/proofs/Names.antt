@@ -1,7 +1,7 @@
 -- The names a, a + 1, .., and lists of names that ascend. Assumes nothing.
 use mathlib.Core.Path.{_≡_, refl, ap, sym, _∙_}
 use mathlib.Core.Bool.{true, false≢true}
-use mathlib.Core.List.{List, [], _∷_}
+use mathlib.Core.List.{List, [], _∷_, map}
 use Prim.Native.Nat.{ℕ, zero, suc, _+_, _≤_, _<_}
 use native.Mathlib.Omega.{arith}
 use lib.ListN.{length, getD}
@@ -37,6 +37,12 @@ pub names-at : (a n j : ℕ) → j < n → getD (namesFrom a n) j 0 ≡ a + j
 names-at a zero j h = absurd (omega arith)
 names-at a (suc n) zero h = omega arith
 names-at a (suc n) (suc j) h = names-at (suc a) n j (omega arith) ∙ omega arith
+
+-- the value of a function at each of them
+pub names-map-at : (f : ℕ → ℕ) (a n j : ℕ) → j < n → getD (map f (namesFrom a n)) j 0 ≡ f (a + j)
+names-map-at f a zero j h = absurd (omega arith)
+names-map-at f a (suc n) zero h = ap f (omega arith)
+names-map-at f a (suc n) (suc j) h = names-map-at f (suc a) n j (omega arith) ∙ ap f (omega arith)
 
 -- they are the names from a to below a + n, and no others
 pub names-low : (a n c : ℕ) → member c (namesFrom a n) ≡ true → a ≤ c

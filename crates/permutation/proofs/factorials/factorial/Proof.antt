@@ -1,23 +1,16 @@
--- `permutation::factorials::factorial` meets its contract: the table is the list of the first 21 factorials, as antt computes it. Assumes nothing.
-use mathlib.Core.Path.{_≡_, refl}
-use mathlib.Core.List.{List, [], _∷_}
-use Prim.Native.Nat.{ℕ, zero, suc, _<_}
-use native.Mathlib.Omega.{arith}
+-- `permutation::factorials::factorial` meets its contract: the entry of the table, or 0 past it. Assumes nothing.
+use mathlib.Core.Path.{sym, _∙_}
 use borrow.Author.Needs.{needs}
-use lib.ListN.{getD}
-use Rattle.theory.specs.Factorial.{factorial}
+use borrow.Author.Tests.{lt-leb}
+use Rattle.permutation.proofs.Table.{table-at, within-is}
 use Rattle.permutation.proofs.factorials.factorial.Statement.{statement}
 use Rattle.permutation.proofs.factorials.factorial.Tie as tie
 
--- the first n values of f
-abbrev table : (ℕ → ℕ) → ℕ → List ℕ
-table f zero = []
-table f (suc n) = f 0 ∷ table (λ k. f (suc k)) n
+returns : tie.Need-returns
+returns c = rw (lt-leb (c .before .args .n) 20 (c .if1 .taken))
 
-table-at : (f : ℕ → ℕ) (n k : ℕ) → k < n → getD (table f n) k 0 ≡ f k
-table-at f zero k h = absurd (omega arith)
-table-at f (suc n) zero h = refl
-table-at f (suc n) (suc k) h = table-at (λ j. f (suc j)) n k (omega arith)
+factorial-table-requires : tie.Need-factorial-table-requires
+factorial-table-requires c κs = search needs
 
 mul-result : tie.Need-mul-result
 mul-result c = search needs
@@ -25,8 +18,12 @@ mul-result c = search needs
 array-read-result : tie.Need-array-read-result
 array-read-result c = search needs
 
-returns : tie.Need-returns
-returns c = table-at factorial 21 (c .args .n) (search needs)
+returns-2 : tie.Need-returns-2
+returns-2 c =
+    let n = c .before .before .args .n in
+    let within = c .before .if1 .left in
+    table-at (c .factorial-table .ensures) n within ∙ sym (within-is n within)
 
 pub factorial-spec : {M : Type 1} → statement M
-factorial-spec = tie.close (tie.spec mul-result array-read-result returns)
+factorial-spec =
+    tie.close (tie.spec returns factorial-table-requires mul-result array-read-result returns-2)

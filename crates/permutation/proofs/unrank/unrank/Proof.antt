@@ -1,11 +1,12 @@
 -- `permutation::unrank::unrank` meets its contract: the row of zeros is filled with the cells by spots, which are those of the rank. Assumes nothing.
-use mathlib.Core.Path.{ap, _∙_}
+use mathlib.Core.Path.{_≡_, ap, _∙_}
 use native.Mathlib.Omega.{arith}
 use borrow.Author.Needs.{needs}
 use borrow.Author.Tests.{le-leb, lt-leb, lt-ltb, le-ltb}
 use Rattle.theory.specs.Factorial.{factorial}
 use Rattle.permutation.specs.Answers.{unrankNumber, unranked}
 use Rattle.permutation.specs.declared.answers.Permutation.{Permutation}
+use Rattle.permutation.proofs.Table.{within-is}
 use Rattle.permutation.proofs.Filling.{unrank-record}
 use Rattle.permutation.proofs.unrank.unrank.Statement.{statement}
 use Rattle.permutation.proofs.unrank.unrank.Tie as tie
@@ -31,6 +32,10 @@ returns-2 c =
 factorial-requires : tie.Need-factorial-requires
 factorial-requires c κs = search needs
 
+-- the limit that the rank is compared with
+limit : (c : tie.After-factorial) → c .factorial .result ≡ factorial (c .before .before .before .args .n)
+limit c = c .factorial .ensures ∙ within-is (c .before .before .before .args .n) (c .before .if2 .left)
+
 refuse-requires-3 : tie.Need-refuse-requires-3
 refuse-requires-3 c κs = search needs
 
@@ -38,7 +43,7 @@ returns-3 : tie.Need-returns-3
 unfolding unranked unrankNumber
 returns-3 c =
     let a = c .before .before .before .before .before .args in
-    c .refuse3 .ensures ∙ rw (le-leb 2 (a .n) (omega arith), le-leb (a .n) 20 (omega arith), le-ltb (a .rank) (factorial (a .n)) (omega arith))
+    c .refuse3 .ensures ∙ rw (le-leb 2 (a .n) (omega arith), le-leb (a .n) 20 (omega arith), le-ltb (a .rank) (factorial (a .n)) (omega (arith, limit (c .before .before))))
 
 filled-row-requires : tie.Need-filled-row-requires
 filled-row-requires c κs = search needs
@@ -47,7 +52,7 @@ returns-4 : tie.Need-returns-4
 unfolding unranked unrankNumber
 returns-4 c =
     let a = c .before .before .before .before .before .args in
-    rw (le-leb 2 (a .n) (omega arith), le-leb (a .n) 20 (omega arith), lt-ltb (a .rank) (factorial (a .n)) (omega arith))
+    rw (le-leb 2 (a .n) (omega arith), le-leb (a .n) 20 (omega arith), lt-ltb (a .rank) (factorial (a .n)) (omega (arith, limit (c .before .before))))
     (ap (λ (p : Permutation). record { number = 0; permutation = p }) (unrank-record (a .n) (a .rank) _ (omega arith) (c .filled-row .ensures)))
 
 pub unrank-spec : {M : Type 1} → statement M

@@ -9,18 +9,15 @@ use Rattle.rewriting.proofs.prefix.choose.Statement.{statement}
 use Rattle.rewriting.proofs.prefix.choose.Tie as tie
 
 abbrev Inv-loop : tie.InvT-loop
-Inv-loop cells₀ n p s weight₀ rest₀ i₀ cells weight rest i = Choosing n p s cells₀ cells weight rest i
+Inv-loop cells₀ n p count s weight₀ rest₀ i₀ cells weight rest i = Choosing n p s cells₀ cells weight rest i
 
 abbrev μ-loop : tie.MeasureT-loop
-μ-loop cells₀ n p s weight₀ rest₀ i₀ cells weight rest i = p - i
-
-falling-requires : tie.Need-falling-requires Inv-loop μ-loop
-falling-requires c κs = search needs
+μ-loop cells₀ n p count s weight₀ rest₀ i₀ cells weight rest i = p - i
 
 loop-holds : tie.Need-loop-holds Inv-loop μ-loop
 loop-holds c =
-    let pre = c .before .pre in
-    start (pre .0) (pre .1) (pre .2) (pre .3) (pre .4) (c .falling .ensures)
+    let pre = c .pre in
+    start (pre .0) (pre .1) (rw (← pre .2) (pre .3)) (pre .4) (pre .5) (pre .2)
 
 sub-weight : tie.Need-sub-weight Inv-loop μ-loop
 sub-weight c = omega (arith, c .before .loop .inv .short, c .loop-test .taken)
@@ -63,7 +60,6 @@ choose-spec =
     (tie.spec
     Inv-loop
     μ-loop
-    falling-requires
     loop-holds
     sub-weight
     div-weight

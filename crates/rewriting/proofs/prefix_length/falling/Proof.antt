@@ -1,29 +1,50 @@
 -- `rewriting::prefix_length::falling` meets its contract: the quotient of two factorials, the lower of which is not 0. Assumes nothing.
 use mathlib.Core.Path.{sym}
 use Prim.Native.Nat.{_-_}
+use native.Mathlib.Omega.{arith}
 use borrow.Author.Needs.{needs}
 use Rattle.theory.proofs.Factorials.{factorial-pos, falling-quotient}
+use Rattle.permutation.proofs.Table.{table-at}
 use Rattle.rewriting.proofs.prefix_length.falling.Statement.{statement}
 use Rattle.rewriting.proofs.prefix_length.falling.Tie as tie
 
-factorial-requires : tie.Need-factorial-requires
-factorial-requires c κs = search needs
+mul-result : tie.Need-mul-result
+mul-result c = search needs
 
-sub-factorial : tie.Need-sub-factorial
-sub-factorial c = search needs
+element-copy-out-result : tie.Need-element-copy-out-result
+element-copy-out-result c = search needs
 
-factorial-requires-2 : tie.Need-factorial-requires-2
-factorial-requires-2 c κs = search needs
+sub-result : tie.Need-sub-result
+sub-result c = search needs
+
+mul-result-2 : tie.Need-mul-result-2
+mul-result-2 c = search needs
+
+element-copy-out-result-2 : tie.Need-element-copy-out-result-2
+element-copy-out-result-2 c = search needs
 
 div-result : tie.Need-div-result
 div-result c =
-    let a = c .before .before .args in
-    rw (c .factorial2 .ensures) (factorial-pos (a .n - a .p))
+    let start = c .before .before in
+    let left = start .args .n - start .args .p in
+    rw (table-at (start .pre .0) left (omega (arith, start .pre .1))) (factorial-pos left)
 
 returns : tie.Need-returns
 returns c =
-    let a = c .before .before .args in
-    rw (c .before .factorial .ensures, c .factorial2 .ensures) (sym (falling-quotient (a .n) (a .p) (c .before .before .pre .1)))
+    let start = c .before .before in
+    let n = start .args .n in
+    let p = start .args .p in
+    rw (table-at (start .pre .0) n (start .pre .1), table-at (start .pre .0) (n - p) (omega (arith, start .pre .1)))
+    (sym (falling-quotient n p (start .pre .2)))
 
 pub falling-spec : {M : Type 1} → statement M
-falling-spec = tie.close (tie.spec factorial-requires sub-factorial factorial-requires-2 div-result returns)
+falling-spec =
+    tie.close
+    (tie.spec
+    mul-result
+    element-copy-out-result
+    sub-result
+    mul-result-2
+    element-copy-out-result-2
+    div-result
+    returns)

@@ -5,10 +5,11 @@ use Prim.Native.Nat.{_≤_}
 use native.Mathlib.Omega.{arith}
 use borrow.Author.Needs.{needs}
 use borrow.Author.Tests.{eqb-false}
-use lib.ListN.{length}
+use lib.ListN.{length, getD}
 use Rattle.theory.specs.Factorial.{factorial}
 use Rattle.theory.specs.Levels.{permutationOf}
 use Rattle.theory.specs.Prefix.{symbolOf}
+use Rattle.permutation.proofs.Table.{table-at}
 use Rattle.rewriting.proofs.Standing.{Standing, number-is, standing}
 use Rattle.rewriting.proofs.Symbols.{numbered, symbol-is, symbol-refused, symbol-fault, symbol-none, symbol-many, symbol-idle, symbol-done}
 use Rattle.rewriting.proofs.read_symbol.read_symbol.Statement.{statement}
@@ -27,46 +28,57 @@ read c = standing _ (c .before .before .read .ensures) (c .if1 .left)
 low : (c : tie.Else2) → 1 ≤ c .before .before .before .before .before .args .m
 low c = omega (arith, c .if2 .left)
 
+limit : (c : tie.After-factorial-table)
+    → let n = length (c .before .before .before .before .before .before .args .levels .now) in getD (c .factorial-table .result) n 0 ≡ factorial n
+limit c = table-at (c .factorial-table .ensures) _ (read (c .before .before) .levels .many)
+
 high : (c : tie.Else3)
     → let entry = c .before .before .before .before .before .before .before in entry .args .m ≤ factorial (length (entry .args .levels .now))
-high c = omega (arith, c .if3 .left, c .before .factorial .ensures)
+high c = omega (arith, c .if3 .left, limit (c .before))
 
 returns-2 : tie.Need-returns-2
 returns-2 c = symbol-refused _ _ (symbol-none _ _ (read (c .before) .levels) (omega (arith, c .if2 .taken))) (eqb-false 5 0 refl)
 
-factorial-requires : tie.Need-factorial-requires
-factorial-requires c κs = read (c .before) .levels .many
+factorial-table-requires : tie.Need-factorial-table-requires
+factorial-table-requires c κs = search needs
+
+mul-if3 : tie.Need-mul-if3
+mul-if3 c = omega (arith, read (c .before .before) .levels .many)
+
+array-read-if3 : tie.Need-array-read-if3
+array-read-if3 c = omega (arith, read (c .before .before) .levels .many)
 
 returns-3 : tie.Need-returns-3
 returns-3 c =
     symbol-refused _ _
-    (symbol-many _ _ (read (c .before .before .before) .levels) (low (c .before .before))
-    (omega (arith, c .if3 .taken, c .before .factorial .ensures)))
+    (symbol-many _ _ (read (c .before .before .before) .levels) (low (c .before .before)) (omega (arith, c .if3 .taken, limit (c .before))))
     (eqb-false 5 0 refl)
 
 check-requires : tie.Need-check-requires
 check-requires c κs = search needs
 
 prefix-length-requires : tie.Need-prefix-length-requires
-prefix-length-requires c κs = read (c .before .before .before .before .before .before .before .before) .levels .many
+prefix-length-requires c κs =
+    let past = c .before .before .before .before .before .before in
+    (past .before .factorial-table .ensures, read (past .before .before .before) .levels .many, low (past .before .before), high past)
 
 prefix-number-requires : tie.Need-prefix-number-requires
 prefix-number-requires c κs =
-    let past = c .before .before .before .before .before .before in
-    let long : length (c .before .before .before .before .check .result .spots) ≡ 21 = search needs in
-    numbered (read (past .before .before .before)) (c .before .before .before .before .check .ensures) long (c .prefix-length .ensures) (high past)
+    let past = c .before .before .before .before .before .before .before in
+    let long : length (c .before .before .before .before .before .check .result .spots) ≡ 21 = search needs in
+    numbered (read (past .before .before .before)) (c .before .before .before .before .before .check .ensures) long (c .prefix-length .ensures) (high past)
 
 -- past the tests the prefix's number is the symbol
 found : (c : tie.After-prefix-number)
-    → let entry = c .before .before .before .before .before .before .before .before .before .before .before .before .before .before in
+    → let entry = c .before .before .before .before .before .before .before .before .before .before .before .before .before .before .before in
     c .prefix-number .result ≡ symbolOf (length (entry .args .levels .now)) (entry .args .m) (permutationOf (entry .args .levels .now))
 found c =
-    symbol-is (read (c .before .before .before .before .before .before .before .before .before .before)) _ (c .prefix-number .ensures)
+    symbol-is (read (c .before .before .before .before .before .before .before .before .before .before .before)) _ (c .prefix-number .ensures)
     (c .before .prefix-length .ensures)
 
 returns-4 : tie.Need-returns-4
 returns-4 c =
-    let past = c .before .before .before .before .before .before .before .before in
+    let past = c .before .before .before .before .before .before .before .before .before in
     symbol-refused _ _
     (symbol-idle _ _ (read (past .before .before .before) .levels) (low (past .before .before)) (high past)
     (omega (arith, c .if4 .taken, found (c .before))))
@@ -74,7 +86,7 @@ returns-4 c =
 
 returns-5 : tie.Need-returns-5
 returns-5 c =
-    let past = c .before .before .before .before .before .before .before .before in
+    let past = c .before .before .before .before .before .before .before .before .before in
     symbol-done _ _ (read (past .before .before .before) .levels) (low (past .before .before)) (high past) (found (c .before)) (c .if4 .left)
 
 pub read-symbol-spec : {M : Type 1} → statement M
@@ -84,7 +96,9 @@ read-symbol-spec =
     read-requires
     returns
     returns-2
-    factorial-requires
+    factorial-table-requires
+    mul-if3
+    array-read-if3
     returns-3
     check-requires
     prefix-length-requires

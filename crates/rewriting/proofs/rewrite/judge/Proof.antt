@@ -46,9 +46,12 @@ returns-5 : tie.Need-returns-5
 returns-5 c =
     let at = c .before .before .before .before in
     let fault = check-number _ (at .before .check .ensures) in
-    fault
-    ∙ judge-muddle _ _ _ (group-ok (at .before .before)) (target-ok at) (c .before .before .if3 .left) (c .before .if4 .left)
-    (λ z. c .if5 .taken (fault ∙ z))
+    omega (
+      arith,
+      fault,
+      judge-muddle _ _ _ (group-ok (at .before .before)) (target-ok at) (c .before .before .if3 .left) (c .before .if4 .left)
+          (λ z. c .if5 .taken (fault ∙ z)),
+    )
 
 returns-6 : tie.Need-returns-6
 returns-6 c =

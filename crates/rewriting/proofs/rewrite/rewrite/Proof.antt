@@ -54,7 +54,7 @@ rewrite-number-requires c κs =
 raise-requires : tie.Need-raise-requires
 raise-requires c κs =
     let counted = c .before .before in
-    pushable (known counted) (number counted) (long counted)
+    pushable (known counted) (long counted) (omega (arith, number-below (known counted) (number counted)))
 
 list-pushes-requires : tie.Need-list-pushes-requires
 list-pushes-requires c κs =
@@ -74,7 +74,8 @@ returns-2 c =
     let at = c .before .before .before .before .before in
     let judged = at .before .before .before .before in
     let counted = judged .before .before .before in
-    rewrite-done _ _ _ (known counted) (number counted) (judged .raise .ensures) (long counted) (at .if2 .taken) (c .before .before .list-pushes .ensures)
+    rewrite-done _ _ _ (known counted) (long counted) (judged .raise .ensures) (omega (arith, number counted)) (at .if2 .taken)
+    (c .before .before .list-pushes .ensures)
 
 same-length-4 : tie.Need-same-length-4
 same-length-4 c = search needs
@@ -83,7 +84,7 @@ returns-3 : tie.Need-returns-3
 returns-3 c =
     let judged = c .before .before .before .before in
     let counted = judged .before .before .before in
-    rewrite-ceiling _ _ _ (known counted) (number counted) (judged .raise .ensures) (long counted) (c .if2 .left)
+    rewrite-ceiling _ _ _ (known counted) (long counted) (judged .raise .ensures) (omega (arith, number counted)) (c .if2 .left)
 
 pub rewrite-spec : {M : Type 1} → statement M
 rewrite-spec =

@@ -33,16 +33,18 @@ loop-less : tie.Need-loop-less Inv-loop μ-loop
 loop-less c = search needs
 
 loop-again : tie.Need-loop-again Inv-loop μ-loop
-loop-again c = step-crossed (c .before .before .before .before .loop .inv) (c .before .before .before .loop-test .taken) (c .if1 .taken)
+loop-again c =
+    step-crossed (c .before .before .before .before .loop .inv) (omega (arith, c .before .before .before .loop-test .taken)) (c .if1 .taken)
 
 loop-less-2 : tie.Need-loop-less-2 Inv-loop μ-loop
 loop-less-2 c = search needs
 
 loop-again-2 : tie.Need-loop-again-2 Inv-loop μ-loop
-loop-again-2 c = step-passed (c .before .before .before .before .loop .inv) (c .before .before .before .loop-test .taken) (c .if1 .left)
+loop-again-2 c =
+    step-passed (c .before .before .before .before .loop .inv) (omega (arith, c .before .before .before .loop-test .taken)) (c .if1 .left)
 
 returns : tie.Need-returns Inv-loop μ-loop
-returns c = end (c .before .loop .inv) (c .loop-test .left)
+returns c = end (c .before .loop .inv) (omega (arith, c .loop-test .left))
 
 pub rewrite-number-spec : {M : Type 1} → statement M
 rewrite-number-spec =

@@ -1,7 +1,8 @@
 -- `rewriting::store::store` meets its contract: each test decides the number, and past them the prefix's first cells are pushed. Assumes nothing.
+use native.Mathlib.Omega.{arith}
 use borrow.Author.Needs.{needs}
 use Rattle.rewriting.proofs.Standing.{Standing, number-is, standing}
-use Rattle.rewriting.proofs.Storing.{Found, found-done, found-lengths, found-pushable, found-stored, store-refused, store-fault, store-value}
+use Rattle.rewriting.proofs.Storing.{Found, found-done, found-lengths, found-pushable, unpassed-below, found-stored, store-refused, store-fault, store-value}
 use Rattle.rewriting.proofs.store.store.Statement.{statement}
 use Rattle.rewriting.proofs.store.store.Tie as tie
 
@@ -45,7 +46,8 @@ unpassed-requires c κs = found-lengths (found-now (c .before .before .before))
 raise-requires : tie.Need-raise-requires
 raise-requires c κs =
     let counted = c .before .before in
-    found-pushable (found-now (counted .before .before .before .before)) (counted .unpassed .ensures)
+    let f = found-now (counted .before .before .before .before) in
+    found-pushable f (omega (arith, unpassed-below f (counted .unpassed .ensures)))
 
 same-length-3 : tie.Need-same-length-3
 same-length-3 c = search needs
@@ -54,7 +56,7 @@ returns-3 : tie.Need-returns-3
 returns-3 c =
     let judged = c .before .before in
     let counted = judged .before .before .before in
-    found-stored (found-now (counted .before .before .before .before)) (counted .unpassed .ensures) (judged .raise .ensures)
+    found-stored (found-now (counted .before .before .before .before)) (judged .raise .ensures) (omega (arith, counted .unpassed .ensures))
 
 pub store-spec : {M : Type 1} → statement M
 store-spec =
