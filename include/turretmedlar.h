@@ -1,8 +1,8 @@
 /* Turretmedlar: groups of 2 to 20 cells that store by order of charge.
  *
- * The functions of the static library target/staticlib/libffi.a, which `rt staticlib ffi` proves and builds for x86-64 Linux (System V calling convention; it
- * needs memcpy, memmove and memset, and uses SSE registers). What each gives is proved, for every input value. "Document 01" is the scope paper whose terms
- * the comments name.
+ * The functions of the static library target/staticlib/libturretmedlar.a, which `rt staticlib turretmedlar` proves and builds for x86-64 Linux (System V calling
+ * convention; it needs memcpy, memmove and memset, and uses SSE registers). What each gives is proved, for every input value. "Document 01" is the scope paper
+ * whose terms the comments name.
  *
  * A group's charge is a list of 16-bit levels, entry by cell name: levels[0] is the level of cell 1. A permutation (document 01: an order) lists the names
  * from the highest level to the lowest; place 1 is the top. A push raises one cell's level to the highest plus 1, so that the cell comes to place 1.
