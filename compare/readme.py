@@ -1,6 +1,7 @@
 #!/usr/bin/env python3
-"""Holds README.md to what it shows: a block `c` or `rust` is the file named in the line above it, a block `toml` stands in the Rust example's Cargo.toml, and what a
-block `sh` prints is the block `text` that follows it. An `sh` block that is followed by none is not run."""
+"""Holds README.md to what it shows: a block `c` or `rust` is the file named in the line above it, a block `toml` stands in the Rust example's Cargo.toml, what a
+block `sh` prints is the block `text` that follows it, and the version is that of the header and of the Rust package. An `sh` block that is followed by none is not
+run."""
 import re
 import subprocess
 import sys
@@ -8,7 +9,8 @@ from pathlib import Path
 
 ROOT = Path(__file__).resolve().parent.parent
 BLOCK = re.compile(r"^```(\w+)\n(.*?)^```$", re.M | re.S)
-CHECKS = 7
+VERSIONS = {"README.md": r"^Version (\S+),", "include/turretmedlar.h": r'^#define TM_VERSION "(.*)"$', "compare/bindings/Cargo.toml": r'^version = "(.*)"$'}
+CHECKS = 9
 
 
 def checks(readme):
@@ -23,6 +25,8 @@ def checks(readme):
             yield "Cargo.toml", body in (ROOT / "examples/rust/Cargo.toml").read_text()
         elif kind == "sh" and after and after.group(1) == "text":
             yield body.splitlines()[-1], printed(body) == (0, after.group(2))
+    versions = [re.findall(pattern, (ROOT / name).read_text(), re.M) for name, pattern in VERSIONS.items()]
+    yield f"versions {versions}", versions[0] == versions[1] == versions[2] and len(versions[0]) == 1
 
 
 def printed(commands):

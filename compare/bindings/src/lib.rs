@@ -8,6 +8,8 @@ pub mod raw;
 use core::{error, fmt};
 pub use raw::Permutation;
 
+/// The version of this package, as the header's `TM_VERSION` says it.
+pub const VERSION: &str = env!("CARGO_PKG_VERSION");
 /// The longest bench sheet.
 pub const SHEET_BYTES: usize = 24_627;
 /// A buffer of so many bytes has room for the text of any sheet.
