@@ -88,25 +88,25 @@ HERE = Repository()
 
 
 class Reader:
-    """Looks up one quoted text after another. `around` is what the next may go on with in a list: a set of words, or a record's name, or nothing."""
+    """Looks up one quoted text after another, and keeps what the next may go on with in a list: the names around the last, its crate, its record."""
 
     def __init__(self):
-        self.folder, self.crate, self.around, self.record = None, None, None, None
+        self.around = self.crate = self.record = None
         self.looked_up = 0
 
     def look_up(self, text, before):
         """What is wrong with a quoted text, or nothing; `before` is what stands between it and the one before it."""
         going_on = LIST.fullmatch(before)
-        around, record, crate = (self.around, self.record, self.crate) if going_on else (None, None, None)
-        self.around = self.record = self.crate = None
+        around, crate, record = (self.around, self.crate, self.record) if going_on else (None, None, None)
+        self.around = self.crate = self.record = None
         self.looked_up += 1
         if text in OTHERS or text.startswith("--") or not re.search(r"[^\W\d]", text):
             self.looked_up -= 1
-        elif re.search(r"\bedits?\s+$", before) or (going_on and around is HERE.edits):
+        elif re.search(r"\bedits?\s+$", before) or (around is HERE.edits and re.fullmatch(r"\w+", text)):
             self.around = HERE.edits
             return text not in HERE.edits and "no such edit"
-        elif (file := FILE.fullmatch(text)) and (file[1] or file[2] or (file[4] and crate)):
-            return self.file(file[1] or (crate if not file[2] else "theory"), file[2] or "specs", file[3], file[4])
+        elif (file := FILE.fullmatch(text)) and (file[1] or file[2] or (crate and file[4])):
+            return self.file(file[1] or ("theory" if file[2] else crate), file[2] or "specs", file[3], file[4])
         elif item := re.fullmatch(r"(\w+)::(\w+)(?:::(\w+))?", text):
             return self.item(*item.groups())
         elif re.search(r"[^\w./:*+-]", text):
