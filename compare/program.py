@@ -96,7 +96,7 @@ def statuses(texts):
     yield "0, a pipe", ran('cat "$1" | "$0" /dev/stdin', COMMAND, PAPER), 0, texts["paper"], ""
     yield "1, a folder", ran('"$0" .', COMMAND), 1, "", f"bench: standard input: {os.strerror(errno.EISDIR)}\n"
     yield "1, a full device", ran('"$0" "$1" >/dev/full', COMMAND, PAPER), 1, "", f"bench: standard output: {os.strerror(errno.ENOSPC)}\n"
-    yield "1, closed output", ran('"$0" "$1" >&-', COMMAND, PAPER), 1, "", "Bad file descriptor\n"
+    yield "1, closed output", ran('"$0" "$1" >&-', COMMAND, PAPER), 1, "", "standard output is closed\n"
     yield "2, no file", ran('"$0"', COMMAND), 2, "", "usage: "
     yield "2, two files", ran('"$0" "$1" "$1"', COMMAND, PAPER), 2, "", "usage: "
     yield "3, no such file", ran('"$0" "$1"', COMMAND, PAPER / "none"), 3, "", "/none"
