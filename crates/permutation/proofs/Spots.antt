@@ -2,23 +2,22 @@
 -- Assumes nothing.
 use mathlib.Core.Path.{_≡_, refl, ap, sym, _∙_}
 use mathlib.Core.Bool.{Bool, true, false, cond, not}
-use mathlib.Core.List.{List, [], _∷_, _++_, map, append-nil}
+use mathlib.Core.List.{List, [], _∷_, _++_, append-nil}
 use Prim.Native.Nat.{ℕ, zero, suc, _+_, _-_, _≤_, _<_}
 use native.Mathlib.Nat.{le-refl, sub-zero, sub-self}
 use native.Mathlib.Numerals.{sub-one}
 use native.Mathlib.Omega.{arith}
 use borrow.Author.Tests.{eq-eqb, ne-eqb, lt-ltb, le-ltb, le-leb, lt-leb}
 use lib.Dec.{ltb}
-use lib.ListN.{length, getD, take, drop, set, replicate, length-map, take-append-drop, List·getD-map}
+use lib.ListN.{length, getD, take, drop, set, replicate, take-append-drop}
 use lib.Seq.{append-snoc, take-suc-set, drop-set-lt}
-use Rattle.theory.specs.Lists.{count, member, namesFrom}
+use Rattle.theory.specs.Lists.{count, member}
 use Rattle.theory.specs.Permutation.{IsPermutation, row}
 use Rattle.theory.specs.Rank.{digit, digits}
 use Rattle.theory.proofs.Cases.{by-test, by-name, by-le, by-order}
 use Rattle.theory.proofs.Counts.{delta-eq, delta-self, delta-ne, count-append, adds-between}
 use Rattle.theory.proofs.Members.{count-member}
-use Rattle.theory.proofs.Names.{names-length, names-at}
-use Rattle.theory.proofs.Padding.{getD-any}
+use Rattle.theory.proofs.Names.{names-map-at}
 use Rattle.theory.proofs.Permutations as permutations
 use Rattle.theory.proofs.Permutations.{Around, inside, removed}
 use Rattle.theory.proofs.Ranking.{digits-long}
@@ -28,15 +27,9 @@ use Rattle.permutation.proofs.Zeros.{filled}
 
 -- ---- the row of spots
 
--- the entry of c, in a row of what f makes of each name from 0 on
-entry-of : (f : ℕ → ℕ) (n c : ℕ) → c < n → getD (map f (namesFrom 0 n)) c 0 ≡ f c
-entry-of f n c h =
-    let there : c < length (map f (namesFrom 0 n)) = omega (arith, length-map (namesFrom 0 n) f, names-length 0 n) in
-    getD-any (map f (namesFrom 0 n)) c 0 (f 0) there ∙ List·getD-map f (namesFrom 0 n) c 0 ∙ ap f (names-at 0 n c h ∙ omega arith)
-
 pub spot-row-at : (xs : List ℕ) (c : ℕ) → c ≤ 20 → getD (spotRow xs) c 0 ≡ cond (member c xs) (spot c xs) 20
 unfolding spotRow
-spot-row-at xs c h = entry-of (λ c. cond (member c xs) (spot c xs) 20) 21 c (omega arith)
+spot-row-at xs c h = names-map-at (λ c. cond (member c xs) (spot c xs) 20) 0 21 c c (omega arith) (omega arith)
 
 pub spot-row-length : (xs : List ℕ) → length (spotRow xs) ≡ 21
 unfolding spotRow

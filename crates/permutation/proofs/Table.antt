@@ -1,7 +1,7 @@
 -- The factorials that the code keeps: each entry of the table, and what is within it. Assumes nothing.
-use mathlib.Core.Path.{_≡_, ap, _∙_}
+use mathlib.Core.Path.{_≡_}
 use mathlib.Core.List.{List}
-use Prim.Native.Nat.{ℕ, _+_, _≤_}
+use Prim.Native.Nat.{ℕ, _≤_}
 use native.Mathlib.Omega.{arith}
 use borrow.Author.Tests.{le-leb}
 use lib.ListN.{getD}
@@ -11,7 +11,7 @@ use Rattle.permutation.specs.Factorials.{factorialTable, factorialWithin
 
 pub table-at : {table : List ℕ} → table ≡ factorialTable → (n : ℕ) → n ≤ 20 → getD table n 0 ≡ factorial n
 unfolding factorialTable
-table-at e n h = let all : 0 + n ≡ n = omega arith in rw e (names-map-at factorial 0 21 n (omega arith) ∙ ap factorial all)
+table-at e n h = rw e (names-map-at factorial 0 21 n n (omega arith) (omega arith))
 
 pub within-is : (n : ℕ) → n ≤ 20 → factorialWithin n ≡ factorial n
 within-is n h = rw (le-leb n 20 h)

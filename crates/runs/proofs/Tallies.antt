@@ -9,7 +9,7 @@ use Rattle.theory.specs.Lists.{namesFrom, names}
 use Rattle.theory.specs.Permutation.{row}
 use Rattle.theory.proofs.Padding.{row-at}
 use Rattle.theory.proofs.Cases.{by-name}
-use Rattle.theory.proofs.Names.{names-length}
+use Rattle.theory.proofs.Names.{names-length, names-map-at}
 
 map-long : (f : ℕ → ℕ) (n : ℕ) → length (map f (names n)) ≡ n
 map-long f n = length-map (names n) f ∙ names-length 1 n
@@ -22,13 +22,6 @@ map-agree f g a (suc n) h =
 map-zero : (f : ℕ → ℕ) (a n : ℕ) → ((c : ℕ) → f c ≡ 0) → map f (namesFrom a n) ≡ replicate n 0
 map-zero f a zero h = refl
 map-zero f a (suc n) h = ap₂ (λ (x : ℕ) (l : List ℕ). x ∷ l) (h a) (map-zero f (suc a) n h)
-
-at-name : (f : ℕ → ℕ) (a n c : ℕ) → a ≤ c → c < a + n → getD (map f (namesFrom a n)) (c - a) 0 ≡ f c
-at-name f a zero c low high = absurd (omega arith)
-at-name f a (suc n) c low high =
-    by-name c a
-    (λ e t. let z : c - a ≡ 0 = omega arith in rw z (ap f (sym e)))
-    (λ ne t. let s : c - a ≡ suc (c - suc a) = omega (arith, ne) in rw s (at-name f (suc a) n c (omega (arith, ne)) (omega arith)))
 
 set-name : (f g : ℕ → ℕ) (a n c : ℕ) → a ≤ c → c < a + n → ((d : ℕ) → (d ≡ c → ⊥) → f d ≡ g d)
     → set (map f (namesFrom a n)) (c - a) (g c) ≡ map g (namesFrom a n)
@@ -51,7 +44,7 @@ module _ (n : ℕ) (few : n ≤ 20) where
   -- the entry of cell c
   pub tally-at : (f : ℕ → ℕ) (c : ℕ) → 1 ≤ c → c ≤ n → getD (row (map f (names n))) (c - 1) 0 ≡ f c
   tally-at f c low high =
-      row-at (map f (names n)) (c - 1) (omega (arith, map-long f n)) ∙ at-name f 1 n c low (omega arith)
+      row-at (map f (names n)) (c - 1) (omega (arith, map-long f n)) ∙ names-map-at f 1 n (c - 1) c (omega arith) (omega arith)
 
   -- one entry is changed
   pub tally-set : (f g : ℕ → ℕ) (c v : ℕ) → 1 ≤ c → c ≤ n → v ≡ g c → ((d : ℕ) → (d ≡ c → ⊥) → f d ≡ g d)
