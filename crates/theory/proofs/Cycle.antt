@@ -8,8 +8,9 @@ use lib.ListN.{length, take}
 use lib.Seq.{take-at}
 use Rattle.theory.specs.Lists.{delta, count}
 use Rattle.theory.specs.Factorial.{factorial}
-use Rattle.theory.specs.Permutation.{IsPermutation, placeOf, top}
-use Rattle.theory.specs.Successor.{step}
+use Rattle.theory.specs.Permutation.{IsPermutation, cellAt, placeOf, top}
+use Rattle.theory.specs.Push.{push}
+use Rattle.theory.specs.Successor.{successor, step}
 use Rattle.theory.specs.Rank.{rank}
 use Rattle.theory.specs.Run.{steps, pushCount}
 use Rattle.theory.proofs.Cases.{by-le}
@@ -113,6 +114,19 @@ steps-add n k zero xs =
 steps-add n k (suc j) xs =
     let e : suc (k + j) ≡ k + suc j = omega arith in
     ap (step n) (steps-add n k j xs) ∙ ap (λ (i : ℕ). steps n i xs) e
+
+-- what one step counts
+pub count-pushed : (n : ℕ) (xs : List ℕ) → pushCount n (cellAt (successor n xs) xs) 1 xs ≡ 1
+unfolding pushCount steps step push
+count-pushed n xs = omega (arith, delta-self (cellAt (successor n xs) xs))
+
+pub count-others : (n : ℕ) (xs : List ℕ) (c : ℕ) → (c ≡ cellAt (successor n xs) xs → ⊥) → pushCount n c 1 xs ≡ 0
+unfolding pushCount steps step push
+count-others n xs c ne = omega (arith, delta-ne (cellAt (successor n xs) xs) c (λ e. ne (sym e)))
+
+pub count-step : (n : ℕ) (xs : List ℕ) (k c : ℕ) → pushCount n c (suc k) xs ≡ pushCount n c k xs + pushCount n c 1 (steps n k xs)
+unfolding pushCount steps
+count-step n xs k c = omega arith
 
 module _ (n : ℕ) (big : 2 ≤ n) (xs : List ℕ) (o : IsPermutation n xs) where
   pub run-permutation : (k : ℕ) → IsPermutation n (steps n k xs)

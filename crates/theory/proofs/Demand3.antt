@@ -10,7 +10,17 @@ use Rattle.theory.specs.Levels.{highest, permutationOf, ReadsAs}
 use Rattle.theory.specs.CountUp.{countUp}
 use Rattle.theory.specs.Run.{steps, stepLevels, afterCalls, stepsDone}
 use Rattle.theory.specs.Demand3.{Start, Demand3}
-use Rattle.theory.proofs.Cycle.{run-permutation, run-rank, run-different, run-return, run-balance, run-shares}
+use Rattle.theory.proofs.Cycle.{
+  run-permutation,
+  run-rank,
+  run-different,
+  run-return,
+  count-pushed,
+  count-others,
+  count-step,
+  run-balance,
+  run-shares,
+}
 use Rattle.theory.proofs.Sorting.{reads-permutationOf, reads-untied, reads-is}
 use Rattle.theory.proofs.LevelRun.{run-length, run-reads, run-highest, run-gap, run-jump, stepLevels-add, countUp-run}
 use Rattle.theory.proofs.Calls.{call-done, call-refused, calls-run, call-number}
@@ -52,6 +62,9 @@ demand3 n low = record {
   ranks = run-rank n low;
   different = run-different n low;
   return = run-return n low;
+  counts-pushed = count-pushed n;
+  counts-others = count-others n;
+  counts-step = count-step n;
   shares = run-shares n low;
   balance = run-balance n low;
   level-start = start-permutation n low;

@@ -1,3 +1,4 @@
+pub mod Reasons
 pub mod Cases
 pub mod Counts
 pub mod Permutations

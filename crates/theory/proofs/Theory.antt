@@ -1,5 +1,6 @@
 -- All claims hold. Assumes nothing.
 use Rattle.theory.specs.Theory.{Theory}
+use Rattle.theory.proofs.Reasons.{reasons}
 use Rattle.theory.proofs.Factorials.{factorials}
 use Rattle.theory.proofs.Padding.{padding}
 use Rattle.theory.proofs.Ranking.{ranking}
@@ -14,6 +15,7 @@ use Rattle.theory.proofs.Readings.{readings}
 
 pub theory : Theory
 theory = record {
+  reasons = reasons;
   factorials = factorials;
   padding = padding;
   ranking = ranking;

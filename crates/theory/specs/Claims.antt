@@ -5,6 +5,7 @@ use mathlib.Core.List.{List, _++_, reverse, Lexᴰ}
 use Prim.Native.Nat.{ℕ, _+_, _-_, _/_, _%_, _^_, _≤_, _<_}
 use lib.Dec.{eqb}
 use lib.ListN.{length, getD, take, drop}
+use Rattle.theory.specs.Reasons as reason
 use Rattle.theory.specs.Lists.{member, without, names}
 use Rattle.theory.specs.Factorial.{factorial, falling}
 use Rattle.theory.specs.Permutation.{IsPermutation, row, cellAt, top}
@@ -17,6 +18,18 @@ use Rattle.theory.specs.CountUp.{countUp, callNumber, callPushes, callLe
 use Rattle.theory.specs.Rewrite.{rewriteNumber, rewritePushes}
 use Rattle.theory.specs.Prefix.{IsPrefix, prefixes, prefixAt, prefixNumber, prefixLength, symbolPrefix, symbolOf}
 use Rattle.theory.specs.Store.{storePrefix, storeCount, storePushes}
+
+-- "Why a job is sent back": the number of each word
+pub record Reasons : Type 0 where
+  pub done : reason.done ≡ 0
+  pub size : reason.size ≡ 1
+  pub fit : reason.fit ≡ 2
+  pub muddle : reason.muddle ≡ 3
+  pub tie : reason.tie ≡ 4
+  pub value : reason.value ≡ 5
+  pub ceiling : reason.ceiling ≡ 6
+  pub idle : reason.idle ≡ 7
+  pub sheet : reason.sheet ≡ 8
 
 -- factorials and falling factorials
 pub record Factorials : Type 0 where

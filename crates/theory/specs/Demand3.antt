@@ -5,7 +5,8 @@ use mathlib.Core.List.{List, [], _∷_, _++_}
 use Prim.Native.Nat.{ℕ, suc, _+_, _-_, _%_, _≤_, _<_}
 use lib.ListN.{length}
 use Rattle.theory.specs.Factorial.{factorial}
-use Rattle.theory.specs.Permutation.{IsPermutation, top}
+use Rattle.theory.specs.Permutation.{IsPermutation, cellAt, top}
+use Rattle.theory.specs.Successor.{successor}
 use Rattle.theory.specs.Rank.{rank}
 use Rattle.theory.specs.Levels.{highest, lowest, tied, Gapless, permutationOf, jump}
 use Rattle.theory.specs.CountUp.{countUp, callNumber, callPushes, callLevels}
@@ -37,6 +38,12 @@ pub record Demand3 (n : ℕ) : Type 0 where
   pub different :
       (xs : List ℕ) → IsPermutation n xs → (i j : ℕ) → i < j → j < factorial n → steps n i xs ≡ steps n j xs → ⊥
   pub return : (xs : List ℕ) → IsPermutation n xs → steps n (factorial n) xs ≡ xs
+  -- "how many of those k pushes moved it to place 1": a step counts for the cell that stands at the successor's place before it, and for no other. All other
+  -- clauses would hold as well of a count of the cells on top before the steps
+  pub counts-pushed : (xs : List ℕ) → pushCount n (cellAt (successor n xs) xs) 1 xs ≡ 1
+  pub counts-others : (xs : List ℕ) (c : ℕ) → (c ≡ cellAt (successor n xs) xs → ⊥) → pushCount n c 1 xs ≡ 0
+  -- step k + 1 adds what that one step counts
+  pub counts-step : (xs : List ℕ) (k c : ℕ) → pushCount n c (suc k) xs ≡ pushCount n c k xs + pushCount n c 1 (steps n k xs)
   -- each cell is pushed (n - 1)! times in those n! steps, and at all times push counts are at most 2 apart
   pub shares :
       (xs : List ℕ) → IsPermutation n xs → (c : ℕ) → 1 ≤ c → c ≤ n → pushCount n c (factorial n) xs ≡ factorial (n - 1)

@@ -7,11 +7,12 @@ use lib.ListN.{length}
 use Rattle.theory.specs.Factorial.{factorial}
 use Rattle.theory.specs.Permutation.{IsPermutation}
 use Rattle.theory.specs.Levels.{tied}
-use Rattle.theory.specs.Claims.{Factorials, Padding, Ranking, Stepping, Reading, Rewriting, Numbering, Coding, Storing, Calling}
+use Rattle.theory.specs.Claims.{Reasons, Factorials, Padding, Ranking, Stepping, Reading, Rewriting, Numbering, Coding, Storing, Calling}
 use Rattle.theory.specs.Demand3.{Demand3}
 use Rattle.theory.specs.Readings.{Readings}
 
 pub record Theory : Type 0 where
+  pub reasons : Reasons
   pub factorials : Factorials
   pub padding : (xs : List ℕ) → length xs ≤ 20 → Padding xs
   pub ranking : (n : ℕ) → Ranking n
