@@ -9,13 +9,13 @@ use Rattle.charge.proofs.judge.tied.Statement.{statement}
 use Rattle.charge.proofs.judge.tied.Tie as tie
 
 abbrev Inv-loop : tie.InvT-loop
-Inv-loop levels i₀ i = (i ≤ length levels) × (tied levels ≡ tied (drop i levels))
+Inv-loop levels i₀ i = (tied levels ≡ tied (drop i levels)) × (i ≤ length levels)
 
 abbrev μ-loop : tie.MeasureT-loop
 μ-loop levels i₀ i = length levels - i
 
 loop-holds : tie.Need-loop-holds Inv-loop μ-loop
-loop-holds c = (search needs, refl)
+loop-holds c = (refl, search needs)
 
 mul-stands-from : tie.Need-mul-stands-from Inv-loop μ-loop
 mul-stands-from c = search needs
@@ -32,7 +32,7 @@ stands-from-requires c κs = search needs
 returns : tie.Need-returns Inv-loop μ-loop
 returns c =
     let found = sym (c .before .stands-from .ensures) ∙ c .if1 .taken in
-    sym (c .before .before .before .before .loop .inv .1 ∙ tied-here _ _ (c .before .before .before .loop-test .taken) found)
+    sym (c .before .before .before .before .loop .inv .0 ∙ tied-here _ _ (c .before .before .before .loop-test .taken) found)
 
 add-i : tie.Need-add-i Inv-loop μ-loop
 add-i c = search needs
@@ -43,10 +43,10 @@ loop-less c = search needs
 loop-again : tie.Need-loop-again Inv-loop μ-loop
 loop-again c =
     let none = sym (c .before .stands-from .ensures) ∙ c .if1 .left in
-    (search needs, c .before .before .before .before .loop .inv .1 ∙ tied-next _ _ (c .before .before .before .loop-test .taken) none)
+    (c .before .before .before .before .loop .inv .0 ∙ tied-next _ _ (c .before .before .before .loop-test .taken) none, search needs)
 
 returns-2 : tie.Need-returns-2 Inv-loop μ-loop
-returns-2 c = sym (c .before .loop .inv .1 ∙ tied-end _ (c .loop-test .left))
+returns-2 c = sym (c .before .loop .inv .0 ∙ tied-end _ (c .loop-test .left))
 
 pub tied-spec : {M : Type 1} → statement M
 tied-spec =

@@ -68,7 +68,7 @@ wide-requires : tie.Need-wide-requires
 wide-requires c κs = search needs
 
 sub-levels : tie.Need-sub-levels
-sub-levels c = cell c .low
+sub-levels c = omega (arith, cell c .low)
 
 add-levels : tie.Need-add-levels
 add-levels c = search needs

@@ -1,6 +1,7 @@
 -- `sheet::commands::read_command` meets its contract: at each return the tests that led there say which case of `command` holds. Assumes nothing.
 use mathlib.Core.Path.{_≡_, sym, ap, _∙_}
 use Prim.Native.Nat.{_+_}
+use native.Mathlib.Omega.{arith}
 use borrow.Author.Needs.{needs}
 use lib.ListN.{getD}
 use Rattle.sheet.specs.Sheet.{command, bodyAt}
@@ -70,7 +71,9 @@ count-at-requires : tie.Need-count-at-requires
 count-at-requires c κs = search needs
 
 rewrite-at-requires : tie.Need-rewrite-at-requires
-rewrite-at-requires c κs = (search needs, c .before .before .before .before .before .before .before .before .before .before .pre _)
+rewrite-at-requires c κs =
+    let small = c .before .before .before .before .before .before .before .before .before .before .pre in
+    (search needs, omega (arith, small (c .before .before .before .wide .result)))
 
 store-at-requires : tie.Need-store-at-requires
 store-at-requires c κs = search needs

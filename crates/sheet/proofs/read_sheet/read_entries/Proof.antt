@@ -2,6 +2,7 @@
 use mathlib.Core.Path.{_≡_, sym, ap, _∙_}
 use mathlib.Core.List.{List, map, map-id}
 use Prim.Native.Nat.{ℕ, _-_, _≤_}
+use native.Mathlib.Omega.{arith}
 use borrow.Author.Needs.{needs}
 use lib.ListN.{length, take}
 use lib.Seq.{length-take-le}
@@ -110,7 +111,7 @@ returns-2 : tie.Need-returns-2 Inv-loop μ-loop
 unfolding sheetRead
 returns-2 c =
     let l = c .before .before .before .loop in
-    c .refuse2 .ensures ∙ ap sheetRead (sym (row-more _ _ _ _ _ _ (turns-all (l .inv) (search needs)) (c .before .if2 .taken)))
+    c .refuse2 .ensures ∙ ap sheetRead (sym (row-more _ _ _ _ _ _ (turns-all (l .inv) (search needs)) (λ e. omega arith)))
 
 returns-3 : tie.Need-returns-3 Inv-loop μ-loop
 unfolding sheetRead

@@ -50,7 +50,7 @@ refuse-requires-2 c κs = search needs
 returns-2 : tie.Need-returns-2 Inv-loop μ-loop
 unfolding sheetRead
 returns-2 c =
-    c .refuse2 .ensures ∙ ap sheetRead (sym (sheet-few _ _ (omega arith) (c .before .before .wide .ensures) (c .before .if2 .taken)))
+    c .refuse2 .ensures ∙ ap sheetRead (sym (sheet-few _ _ (omega arith) (c .before .before .wide .ensures) (omega arith)))
 
 refuse-requires-3 : tie.Need-refuse-requires-3 Inv-loop μ-loop
 refuse-requires-3 c κs = search needs
@@ -59,7 +59,7 @@ returns-3 : tie.Need-returns-3 Inv-loop μ-loop
 unfolding sheetRead
 returns-3 c =
     c .refuse3 .ensures
-    ∙ ap sheetRead (sym (sheet-many _ _ (omega arith) (c .before .before .before .wide .ensures) (c .before .before .if2 .left) (c .before .if3 .taken)))
+    ∙ ap sheetRead (sym (sheet-many _ _ (omega arith) (c .before .before .before .wide .ensures) (omega arith) (c .before .if3 .taken)))
 
 no-groups-requires : tie.Need-no-groups-requires Inv-loop μ-loop
 no-groups-requires c κs = search needs
