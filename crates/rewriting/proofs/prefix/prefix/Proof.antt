@@ -21,7 +21,7 @@ codes c =
       few = tabled .before .before .if1 .left;
       many = tabled .before .if2 .left;
       most = omega (arith, c .before .if3 .left, limit tabled);
-      below = c .if4 .left;
+      below = omega (arith, c .if4 .left);
     }
 
 no-prefix-requires : tie.Need-no-prefix-requires
@@ -60,7 +60,7 @@ no-prefix-requires-4 c κs = search needs
 returns-4 : tie.Need-returns-4
 returns-4 c =
     let sized = c .before .before .before .before in
-    c .no-prefix4 .ensures ∙ no-symbol _ _ _ (sized .before .if1 .left) (sized .if2 .left) (c .before .if4 .taken)
+    c .no-prefix4 .ensures ∙ no-symbol _ _ _ (sized .before .if1 .left) (sized .if2 .left) (omega (arith, c .before .if4 .taken))
 
 prefix-length-requires : tie.Need-prefix-length-requires
 prefix-length-requires c κs =

@@ -24,7 +24,9 @@ same-length : tie.Need-same-length
 same-length c = search needs
 
 returns : tie.Need-returns
-returns c = raise-ceiling _ _ _ (c .before .highest .ensures) (omega (arith, c .if1 .taken))
+returns c =
+    let a = c .before .before .before .before .args in
+    raise-ceiling (a .levels .now) (a .cells .now) (a .r) (c .before .highest .ensures) (omega (arith, c .if1 .taken))
 
 push-first-requires : tie.Need-push-first-requires
 push-first-requires c κs =

@@ -87,7 +87,7 @@ returns-4 c =
 returns-5 : tie.Need-returns-5
 returns-5 c =
     let past = c .before .before .before .before .before .before .before .before .before in
-    symbol-done _ _ (read (past .before .before .before) .levels) (low (past .before .before)) (high past) (found (c .before)) (c .if4 .left)
+    symbol-done _ _ (read (past .before .before .before) .levels) (low (past .before .before)) (high past) (found (c .before)) (omega (arith, c .if4 .left))
 
 pub read-symbol-spec : {M : Type 1} → statement M
 read-symbol-spec =

@@ -40,7 +40,7 @@ sub-if4 c = omega (arith, group-few _ (group-ok (c .before .before .before .befo
 returns-4 : tie.Need-returns-4
 returns-4 c =
     let at = c .before .before .before in
-    judge-short _ _ _ (group-ok (at .before .before)) (target-ok at) (c .before .if3 .left) (c .if4 .taken)
+    judge-short _ _ _ (group-ok (at .before .before)) (target-ok at) (c .before .if3 .left) (omega (arith, c .if4 .taken))
 
 returns-5 : tie.Need-returns-5
 returns-5 c =

@@ -74,7 +74,7 @@ returns-2 c =
     let at = c .before .before .before .before .before in
     let judged = at .before .before .before .before in
     let counted = judged .before .before .before in
-    rewrite-done _ _ _ (known counted) (long counted) (judged .raise .ensures) (omega (arith, number counted)) (at .if2 .taken)
+    rewrite-done _ _ _ (known counted) (long counted) (judged .raise .ensures) (omega (arith, number counted)) (omega (arith, at .if2 .taken))
     (c .before .before .list-pushes .ensures)
 
 same-length-4 : tie.Need-same-length-4
