@@ -43,7 +43,8 @@ returns-3 : tie.Need-returns-3
 unfolding unranked unrankNumber
 returns-3 c =
     let a = c .before .before .before .before .before .args in
-    c .refuse3 .ensures ∙ rw (le-leb 2 (a .n) (omega arith), le-leb (a .n) 20 (omega arith), le-ltb (a .rank) (factorial (a .n)) (omega (arith, limit (c .before .before))))
+    let high = le-ltb (a .rank) (factorial (a .n)) (omega (arith, limit (c .before .before))) in
+    c .refuse3 .ensures ∙ rw (le-leb 2 (a .n) (omega arith), le-leb (a .n) 20 (omega arith), high)
 
 filled-row-requires : tie.Need-filled-row-requires
 filled-row-requires c κs = search needs
@@ -52,7 +53,8 @@ returns-4 : tie.Need-returns-4
 unfolding unranked unrankNumber
 returns-4 c =
     let a = c .before .before .before .before .before .args in
-    rw (le-leb 2 (a .n) (omega arith), le-leb (a .n) 20 (omega arith), lt-ltb (a .rank) (factorial (a .n)) (omega (arith, limit (c .before .before))))
+    let below = lt-ltb (a .rank) (factorial (a .n)) (omega (arith, limit (c .before .before))) in
+    rw (le-leb 2 (a .n) (omega arith), le-leb (a .n) 20 (omega arith), below)
     (ap (λ (p : Permutation). record { number = 0; permutation = p }) (unrank-record (a .n) (a .rank) _ (omega arith) (c .filled-row .ensures)))
 
 pub unrank-spec : {M : Type 1} → statement M
