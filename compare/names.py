@@ -7,6 +7,8 @@
 - a word alone: a definition, theorem, field, function, struct, constant, edit, crate or file name, wherever it stands; after the word "edit" an edit
 - in a list after one of these, joined by commas, "and", "or", "with": of the same file, folder or record, as in `specs/Run: steps`, `pushCount`; `Demand3.gap`, `.jumps`
 
+Each edit's name stands once in the repository, and in a row of docs/MAP.md.
+
 Of an expression or a command only paths and words with an underscore or an inner capital are looked up. A line of a block without a language must stand in a file of
 crates/, unless `rt` printed it. Skipped: what has no letter, options, the words of OTHERS, blocks with a language (compare/readme.py), and what is not in back quotes."""
 import re
@@ -182,7 +184,16 @@ def wrongs(document):
     print(f"{document.relative_to(ROOT)}: {reader.looked_up} names looked up")
 
 
+def edits_amiss(document):
+    """Edits whose name stands twice, or in no row of docs/MAP.md."""
+    names = [Path(path).stem for path in sorted(HERE.paths) if path.endswith(".edit")]
+    rows = "".join(line for line in document.read_text().splitlines() if line.startswith("|"))
+    yield from (f"{name}: the name of two edits" for name in sorted(HERE.edits) if names.count(name) > 1)
+    yield from (f"{name}: an edit in no row" for name in sorted(HERE.edits) if f"`{name}`" not in rows)
+
+
 bad = [(document, wrong) for document in DOCUMENTS for wrong in wrongs(document)]
+bad += [(ROOT / "docs/MAP.md", wrong) for wrong in edits_amiss(ROOT / "docs/MAP.md")]
 for document, wrong in bad:
     print(f"{document.relative_to(ROOT)}: {wrong}")
 failed = len({document for document, _ in bad})
