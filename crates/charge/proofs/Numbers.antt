@@ -1,5 +1,5 @@
 -- The number that a job on levels answers, by the tests that the code makes, and what it answers beside it. Assumes nothing.
-use mathlib.Core.Path.{_≡_, refl, sym, ap₂, _∙_}
+use mathlib.Core.Path.{_≡_, refl, sym, ap, ap₂, _∙_}
 use mathlib.Core.Bool.{true, false}
 use mathlib.Core.List.{List}
 use Prim.Native.Nat.{ℕ, _+_, _≤_, _<_}
@@ -13,10 +13,13 @@ use Rattle.theory.specs.CountUp.{countUp, callNumber, callLevels}
 use Rattle.theory.proofs.Cases.{by-test, by-le}
 use Rattle.theory.proofs.Sorting.{permutationOf-length}
 use Rattle.theory.proofs.Calls.{calling}
+use Rattle.theory.proofs.CallLists.{granted}
 use Rattle.permutation.specs.declared.answers.Permuted.{Permuted}
 use Rattle.permutation.specs.Answers.{refused}
-use Rattle.permutation.proofs.Answering.{permuted-done, permuted-refused, orElse-refused}
+use Rattle.permutation.proofs.Answering.{given-done, permuted-done, permuted-refused, orElse-refused}
 use Rattle.charge.specs.declared.answers.Pushes.{Pushes}
+use Rattle.charge.specs.declared.judge.Call.{Call}
+use Rattle.charge.specs.Counting.{callJudged}
 use Rattle.charge.specs.Answers.{readNumber, reading, placeNumber, placePushes, placeLevels, counted}
 
 -- ---- reading
@@ -112,6 +115,13 @@ module _ (L : List ℕ) (i : ℕ) where
 
 -- ---- a call of count up with k
 
+-- it is done, and this is the highest level
+pub record Granted (k : ℕ) (L : List ℕ) (top : ℕ) : Type 0 where
+  pub number : callNumber k L ≡ 0
+  pub faultless : Readable L
+  pub top-is : top ≡ highest L
+  pub room : top + k ≤ maxLevel
+
 module _ (k : ℕ) (L : List ℕ) where
   pub call-refused : {number : ℕ} → number ≡ callNumber k L → (number ≡ 0 → ⊥)
       → (_≡_ {A = Pushes} (record { number = number; pushes = 0 }) (counted L k)) × (L ≡ callLevels k L)
@@ -120,14 +130,31 @@ module _ (k : ℕ) (L : List ℕ) where
       let answer = calling k L .unchanged (λ z. ne (e ∙ z)) in
       rw (e, answer .0, answer .1) (refl, refl)
 
+  pub call-done : callNumber k L ≡ 0 → (_≡_ {A = Pushes} (record { number = 0; pushes = k }) (counted L k)) × (countUp k L ≡ callLevels k L)
+  unfolding counted
+  call-done number =
+      let answer = calling k L .counted number in
+      rw (number, answer .0, answer .1) (refl, refl)
+
+  -- as it is judged
+  pub judged-refused : {number : ℕ} → number ≡ callNumber k L → (number ≡ 0 → ⊥)
+      → _≡_ {A = Call} (record { number = number; top = 0 }) (callJudged L k)
+  unfolding callJudged
+  judged-refused e ne = rw (← e, ne-eqb _ 0 ne)
+
+  -- a call that is judged to be done
+  pub judged-granted : {a : Call} → a ≡ callJudged L k → a .number ≡ 0 → Granted k L (a .top)
+  unfolding callJudged
+  judged-granted e z =
+      let number : callNumber k L ≡ 0 = sym (ap (λ (a : Call). a .number) e) ∙ z in
+      let g = granted k L number in
+      let top = ap (λ (a : Call). a .top) e ∙ given-done (callNumber k L) (highest L) 0 number in
+      record { number = number; faultless = record { few = g .0; many = g .1; untied = g .2 }; top-is = top; room = rw top (g .3) }
+
   module _ (r : Readable L) where
+    pub judged-done : highest L + k ≤ maxLevel → {top : ℕ} → top ≡ highest L → _≡_ {A = Call} (record { number = 0; top = top }) (callJudged L k)
+    unfolding callJudged
+    judged-done h e = rw (e, calling k L .done (r .few) (r .many) (r .untied) h)
+
     pub call-ceiling : maxLevel < highest L + k → ceiling ≡ callNumber k L
     call-ceiling h = sym (calling k L .ceiling (r .few) (r .many) (r .untied) h)
-
-    pub call-done : highest L + k ≤ maxLevel
-        → (_≡_ {A = Pushes} (record { number = 0; pushes = k }) (counted L k)) × (countUp k L ≡ callLevels k L)
-    unfolding counted
-    call-done h =
-        let number = calling k L .done (r .few) (r .many) (r .untied) h in
-        let answer = calling k L .counted number in
-        rw (number, answer .0, answer .1) (refl, refl)

@@ -1,4 +1,4 @@
--- What the steps of a count start from. Only private contracts cite this. Assumes nothing.
+-- What a count-up call is judged by, and what its steps start from. Only inner contracts cite these. Assumes nothing.
 use mathlib.Core.Path.{_≡_}
 use mathlib.Core.Bool.{false}
 use mathlib.Core.List.{List}
@@ -7,6 +7,13 @@ use lib.ListN.{length}
 use Rattle.theory.specs.Reasons.{maxLevel}
 use Rattle.theory.specs.Permutation.{row}
 use Rattle.theory.specs.Levels.{highest, tied, permutationOf}
+use Rattle.theory.specs.CountUp.{callNumber}
+use Rattle.permutation.specs.Answers.{given}
+use Rattle.charge.specs.declared.judge.Call.{Call}
+
+-- the number of a call with k, and the highest level beside a 0
+unfoldable pub callJudged : List ℕ → ℕ → Call
+callJudged L k = record { number = callNumber k L; top = given (callNumber k L) (highest L) 0 }
 
 -- k steps from the levels L, whose permutation stands in the row, have room
 pub record Ready (L cells : List ℕ) (top k : ℕ) : Type 0 where

@@ -4,12 +4,10 @@ ghost use Rattle.theory.specs.CountUp as meaning;
 ghost use Rattle.charge.specs.Answers.{counted};
 ghost use Rattle.charge.specs.Counting.{Ready};
 use super::answers::Pushes;
-use super::judge::fault;
-use super::judge::highest;
+use super::judge::judge_call;
 use super::sort::sort_cells;
 use permutation::cell::wide;
 use permutation::push::push_row;
-use permutation::reasons::CEILING;
 use permutation::successor::next_place;
 
 // `cells` is the row of the levels' permutation, and `top` the highest of them.
@@ -33,17 +31,12 @@ pub fn count_up(levels: &mut [u16], k: u32) -> Pushes
     ensures { λ r. ⌜ r ≡ counted (now (levels .entry)) k ⌝ }
     ensures { λ _. ⌜ now (levels .exit) ≡ meaning.callLevels k (now (levels .entry)) ⌝ }
 {
-    let number = fault(levels);
+    let call = judge_call(levels, k);
+    let number = call.number;
     if number != 0 {
         return Pushes { number, pushes: 0 };
     }
-    let top = highest(levels);
-    if 65535 - (top as u32) < k {
-        return Pushes {
-            number: CEILING,
-            pushes: 0,
-        };
-    }
+    let top = call.top;
     let mut cells = [0u8; 20];
     sort_cells(levels, &mut cells);
     count_steps(levels, &mut cells, top, k as u16);

@@ -1,10 +1,12 @@
-// What a job on levels is judged by, before its first push: size, tie, and the highest level. And the lowest, for runs.
+// What a job on levels is judged by, before its first push: size, tie, the highest level, and a count-up call as a whole. And the lowest level, for runs.
 ghost use mathlib.Core.Path.{_≡_};
 ghost use Prim.Native.Nat.{_≤_};
 ghost use lib.ListN.{length, drop};
 ghost use Rattle.theory.specs.Lists.{member};
 ghost use Rattle.theory.specs.Levels as meaning;
 ghost use Rattle.charge.specs.Answers.{readNumber};
+ghost use Rattle.charge.specs.Counting.{callJudged};
+use permutation::reasons::CEILING;
 use permutation::reasons::SIZE;
 use permutation::reasons::TIE;
 
@@ -66,6 +68,30 @@ pub fn highest(levels: &[u16]) -> u16
         }
     }
     top
+}
+
+// What a count-up call is judged by: its number and, where that is 0, the highest level.
+pub struct Call {
+    pub number: u8,
+    pub top: u16,
+}
+
+// A count-up call by k. For other crates too.
+pub fn judge_call(levels: &[u16], k: u32) -> Call
+    ensures { λ r. ⌜ r ≡ callJudged (now (levels .entry)) k ⌝ }
+{
+    let number = fault(levels);
+    if number != 0 {
+        return Call { number, top: 0 };
+    }
+    let top = highest(levels);
+    if 65535 - (top as u32) < k {
+        return Call {
+            number: CEILING,
+            top: 0,
+        };
+    }
+    Call { number: 0, top }
 }
 
 // For other crates too.

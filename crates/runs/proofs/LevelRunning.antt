@@ -8,7 +8,7 @@ use borrow.Author.Tests.{ne-eqb}
 use lib.ListN.{length, getD, set, replicate}
 use Rattle.theory.specs.Permutation.{IsPermutation, row, top}
 use Rattle.theory.specs.Rank.{rank}
-use Rattle.theory.specs.Levels.{highest, Gapless, permutationOf, ReadsAs, pushLevel, jump}
+use Rattle.theory.specs.Levels.{highest, topLessBottom, Gapless, permutationOf, ReadsAs, pushLevel, jump}
 use Rattle.theory.specs.CountUp.{nextCell, countUp, callNumber, callLevels}
 use Rattle.theory.specs.Run.{steps, stepLevels}
 use Rattle.theory.specs.Demand3.{Demand3}
@@ -24,7 +24,7 @@ use Rattle.permutation.proofs.Answering.{ranked-record}
 use Rattle.charge.specs.Answers.{reading}
 use Rattle.charge.proofs.Numbers.{Readable}
 use Rattle.runs.specs.Steps.{pushCounts, countIn}
-use Rattle.runs.specs.LevelSteps.{topLessBottom, levelsAfter, widest, largestRaise, ranLevels, LevelsOf}
+use Rattle.runs.specs.LevelSteps.{levelsAfter, widest, largestRaise, ranLevels, LevelsOf}
 use Rattle.runs.specs.declared.answers.RanLevels.{RanLevels}
 use Rattle.runs.proofs.PushCounts.{Tallied, tallied, counts-none, counts-at}
 use Rattle.runs.proofs.Running.{run-of}

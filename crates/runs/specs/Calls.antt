@@ -8,15 +8,15 @@ use lib.ListN.{length, getD, take, drop}
 use Rattle.theory.specs.Reasons.{done, fit}
 use Rattle.theory.specs.Permutation.{IsPermutation, top}
 use Rattle.theory.specs.Rank.{rank}
-use Rattle.theory.specs.Levels.{highest, Gapless, permutationOf, jump}
+use Rattle.theory.specs.Levels.{highest, topLessBottom, Gapless, permutationOf, jump}
 use Rattle.theory.specs.CountUp.{countUp, callLevels}
-use Rattle.theory.specs.Run.{steps, pushCount, stepLevels, afterCalls, callNumbers, stepsDone}
+use Rattle.theory.specs.Run.{steps, pushCount, afterCalls, callNumbers, stepsDone}
 use Rattle.theory.specs.Demand3.{Done, Refused}
 use Rattle.permutation.specs.Answers.{given}
 use Rattle.charge.specs.Answers.{pushesOf}
 use Rattle.charge.specs.declared.answers.Pushes.{Pushes}
 use Rattle.runs.specs.Steps.{RunOf}
-use Rattle.runs.specs.LevelSteps.{topLessBottom}
+use Rattle.runs.specs.LevelSteps.{levelsAfter}
 
 -- done, whatever numbers the calls get, where there is a place for each of those numbers; otherwise fit, before anything else is judged
 abbrev pub callsNumber : List ℕ → List ℕ → ℕ
@@ -45,7 +45,7 @@ sumDone (k ∷ ks) (number ∷ numbers) = cond (eqb number done) k 0 + sumDone k
 pub record CallsOf (L ks L′ numbers : List ℕ) (K : ℕ) : Type 0 where
   pub sum : K ≡ sumDone ks numbers
   -- "the levels are those that K steps from the start's order leave [..]; the top is the start's plus K"
-  pub levels : L′ ≡ stepLevels (length L) K (permutationOf L) L
+  pub levels : L′ ≡ levelsAfter K L
   pub highest-level : highest L′ ≡ highest L + K
   -- "what demand 3 says of orders, ranks and push counts holds of the levels with K for k". No rank and no push counts are returned: the rank read from L′
   -- and the counts of the K steps stand here
@@ -66,13 +66,13 @@ pub record CallsOf (L ks L′ numbers : List ℕ) (K : ℕ) : Type 0 where
   pub top-then : (i : ℕ) → highest (afterCalls (take i ks) L) ≡ highest L + sumDone (take i ks) numbers
   -- inside a call too, the levels are those of the steps done so far
   pub inside :
-      (i j : ℕ) → countUp j (afterCalls (take i ks) L) ≡ stepLevels (length L) (sumDone (take i ks) numbers + j) (permutationOf L) L
+      (i j : ℕ) → countUp j (afterCalls (take i ks) L) ≡ levelsAfter (sumDone (take i ks) numbers + j) L
   -- from levels without a gap, top less bottom of the levels left is at most n
   pub gap-left : Gapless L → topLessBottom L′ ≤ length L
   -- "The bounds on gaps and jumps speak of every one of the K steps"
   pub gap :
       Gapless L → (k : ℕ) → k ≤ K
-      → topLessBottom (stepLevels (length L) k (permutationOf L) L) ≤ length L
+      → topLessBottom (levelsAfter k L) ≤ length L
   pub jumps :
       Gapless L → (k : ℕ) → k < K
-      → jump (top (steps (length L) (suc k) (permutationOf L))) (stepLevels (length L) k (permutationOf L) L) ≤ length L + 1
+      → jump (top (steps (length L) (suc k) (permutationOf L))) (levelsAfter k L) ≤ length L + 1

@@ -5,16 +5,12 @@ use Prim.Native.Nat.{ℕ, zero, suc, _+_, _-_, _≤_, max}
 use lib.ListN.{length}
 use Rattle.theory.specs.Permutation.{IsPermutation, row, top}
 use Rattle.theory.specs.Rank.{rank}
-use Rattle.theory.specs.Levels.{highest, lowest, Gapless, permutationOf, jump}
+use Rattle.theory.specs.Levels.{highest, topLessBottom, Gapless, permutationOf, jump}
 use Rattle.theory.specs.CountUp.{countUp, callNumber, callPushes}
 use Rattle.theory.specs.Run.{steps, stepLevels}
 use Rattle.permutation.specs.Answers.{given}
 use Rattle.runs.specs.Steps.{pushCounts, countIn, RunOf}
 use Rattle.runs.specs.declared.answers.RanLevels.{RanLevels}
-
--- "Top and bottom are the highest and lowest level"
-abbrev pub topLessBottom : List ℕ → ℕ
-topLessBottom L = highest L - lowest L
 
 -- the levels after k steps from L, "each push made on the levels too"
 abbrev pub levelsAfter : ℕ → List ℕ → List ℕ

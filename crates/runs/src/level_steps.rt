@@ -1,33 +1,18 @@
-// k steps on lent levels, by the public jobs alone: each step reads the permutation, asks its successor and pushes on the levels at the place given.
+// k steps on lent levels, each by the public jobs: it reads the permutation, asks its successor and pushes on the levels at the place given.
 ghost use mathlib.Core.Path.{_≡_};
 ghost use Prim.Native.Nat.{max};
-ghost use Rattle.theory.specs.Levels.{pushLevel, jump};
+ghost use Rattle.theory.specs.Levels.{topLessBottom, pushLevel, jump};
 ghost use Rattle.theory.specs.CountUp.{nextCell, callNumber, callLevels};
-ghost use Rattle.runs.specs.LevelSteps.{topLessBottom, ranLevels, LevelsOf};
+ghost use Rattle.runs.specs.LevelSteps.{ranLevels, LevelsOf};
 use super::answers::RanLevels;
-use charge::judge::fault;
 use charge::judge::highest;
+use charge::judge::judge_call;
 use charge::judge::lowest;
 use charge::push_level::push_level;
 use charge::read::read;
 use permutation::cell::wide;
 use permutation::rank::rank;
-use permutation::reasons::CEILING;
 use permutation::successor::successor;
-
-// The number of a count-up call by k.
-fn call_number(levels: &[u16], k: u32) -> u8
-    ensures { λ r. ⌜ r ≡ callNumber k (now (levels .entry)) ⌝ }
-{
-    let number = fault(levels);
-    if number != 0 {
-        return number;
-    }
-    if 65535 - (highest(levels) as u32) < k {
-        return CEILING;
-    }
-    0
-}
 
 // What a step did: the cell that it pushed, by how much it raised it, and the highest level less the lowest after it.
 struct Stepped {
@@ -69,7 +54,7 @@ pub fn run_levels(levels: &mut [u16], k: u32) -> RanLevels
     ensures { λ _. ⌜ now (levels .exit) ≡ callLevels k (now (levels .entry)) ⌝ }
     ensures { λ r. ⌜ (r .number ≡ 0 → LevelsOf (now (levels .entry)) k (now (levels .exit)) r) ⌝ }
 {
-    let number = call_number(levels, k);
+    let number = judge_call(levels, k).number;
     let mut counts = [0u64; 20];
     if number != 0 {
         return RanLevels {

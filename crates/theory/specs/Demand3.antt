@@ -8,7 +8,7 @@ use Rattle.theory.specs.Factorial.{factorial}
 use Rattle.theory.specs.Permutation.{IsPermutation, cellAt, top}
 use Rattle.theory.specs.Successor.{successor}
 use Rattle.theory.specs.Rank.{rank}
-use Rattle.theory.specs.Levels.{highest, lowest, tied, Gapless, permutationOf, jump}
+use Rattle.theory.specs.Levels.{highest, topLessBottom, tied, Gapless, permutationOf, jump}
 use Rattle.theory.specs.CountUp.{countUp, callNumber, callPushes, callLevels}
 use Rattle.theory.specs.Run.{steps, pushCount, stepLevels, afterCalls, callNumbers, stepsDone}
 
@@ -75,7 +75,7 @@ pub record Demand3 (n : ℕ) : Type 0 where
   -- From levels without a gap, after every step: top less bottom is at most n; and no push raises a cell by more than n + 1
   pub gap :
       (L : List ℕ) → length L ≡ n → Gapless L → (k : ℕ)
-      → highest (stepLevels n k (permutationOf L) L) - lowest (stepLevels n k (permutationOf L) L) ≤ n
+      → topLessBottom (stepLevels n k (permutationOf L) L) ≤ n
   pub jumps :
       (L : List ℕ) → length L ≡ n → Gapless L → (k : ℕ)
       → jump (top (steps n (suc k) (permutationOf L))) (stepLevels n k (permutationOf L) L) ≤ n + 1

@@ -50,15 +50,16 @@ returns-5 c =
       arith,
       fault,
       judge-muddle _ _ _ (group-ok (at .before .before)) (target-ok at) (c .before .before .if3 .left) (c .before .if4 .left)
-          (λ z. c .if5 .taken (fault ∙ z)),
+          (λ z. omega (arith, c .if5 .taken, fault, z)),
     )
 
 returns-6 : tie.Need-returns-6
 returns-6 c =
     let at = c .before .before .before .before in
+    let fault = check-number _ (at .before .check .ensures) in
     at .before .before .before .fault .ensures
     ∙ judge-group _ _ _ (group-ok (at .before .before)) (target-ok at) (c .before .before .if3 .left) (c .before .if4 .left)
-    (sym (check-number _ (at .before .check .ensures)) ∙ c .if5 .left)
+    (omega (arith, fault, c .if5 .left))
 
 pub judge-spec : {M : Type 1} → statement M
 judge-spec =

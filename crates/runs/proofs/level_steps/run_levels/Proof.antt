@@ -7,6 +7,8 @@ use lib.ListN.{getD}
 use Rattle.theory.specs.CountUp.{callNumber}
 use Rattle.permutation.specs.declared.answers.Permuted.{Permuted}
 use Rattle.permutation.specs.declared.answers.Ranked.{Ranked}
+use Rattle.charge.specs.Counting.{callJudged}
+use Rattle.charge.specs.declared.judge.Call.{Call}
 use Rattle.runs.proofs.LevelRunning.{RunningLevels, levels-none, levels-long, step-granted, step-inside, levels-more}
 use Rattle.runs.proofs.LevelRunning.{ran-levels-left, levels-left, levels-of, ran-levels-refused}
 use Rattle.runs.proofs.level_steps.run_levels.Statement.{statement}
@@ -19,20 +21,26 @@ Inv-loop levels₀ k number counts₀ widest₀ largest₀ done₀ levels counts
 abbrev μ-loop : tie.MeasureT-loop
 μ-loop levels₀ k number counts₀ widest₀ largest₀ done₀ levels counts widest largest done = k - done
 
-call-number-requires : tie.Need-call-number-requires Inv-loop μ-loop
-call-number-requires c κs = search needs
+-- the number is that of a count-up call
+number-is : (c : tie.After-judge-call Inv-loop μ-loop)
+    → c .judge-call .result .number ≡ callNumber (c .before .before .before .args .k) (c .before .before .before .args .levels .now)
+unfolding callJudged
+number-is c = ap (λ (a : Call). a .number) (c .judge-call .ensures)
+
+judge-call-requires : tie.Need-judge-call-requires Inv-loop μ-loop
+judge-call-requires c κs = search needs
 
 same-length : tie.Need-same-length Inv-loop μ-loop
 same-length c = search needs
 
 returns : tie.Need-returns Inv-loop μ-loop
 returns c =
-    let r = ran-levels-refused _ _ _ (c .before .call-number .ensures) (c .if1 .taken) in
+    let r = ran-levels-refused _ _ _ (number-is (c .before)) (c .if1 .taken) in
     (r .0, (r .1, λ z. absurd (c .if1 .taken z)))
 
 loop-holds : tie.Need-loop-holds Inv-loop μ-loop
 loop-holds c =
-    let g = sym (c .before .call-number .ensures) ∙ c .if1 .left in
+    let g = sym (number-is (c .before)) ∙ c .if1 .left in
     (omega arith, g, levels-none _ _ g)
 
 step-levels-requires : tie.Need-step-levels-requires Inv-loop μ-loop
@@ -117,7 +125,7 @@ run-levels-spec =
     (tie.spec
     Inv-loop
     μ-loop
-    call-number-requires
+    judge-call-requires
     same-length
     returns
     loop-holds

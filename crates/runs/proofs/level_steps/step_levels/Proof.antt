@@ -13,7 +13,8 @@ use Rattle.runs.proofs.level_steps.step_levels.Statement.{statement}
 use Rattle.runs.proofs.level_steps.step_levels.Tie as tie
 
 -- what was read, and the place that its successor answers
-read-is : (c : tie.After-successor) → c .before .before .read .result .permutation ≡ reading (c .before .before .before .before .before .args .levels .now) .permutation
+read-is : (c : tie.After-successor)
+    → c .before .before .read .result .permutation ≡ reading (c .before .before .before .before .before .args .levels .now) .permutation
 read-is c = ap (λ (a : Permuted). a .permutation) (c .before .before .read .ensures)
 
 place-is : (c : tie.After-successor) → c .successor .result .place ≡ placed (c .before .before .read .result .permutation) .place
@@ -90,7 +91,9 @@ lowest-requires : tie.Need-lowest-requires
 lowest-requires c κs = search needs
 
 sub-t29 : tie.Need-sub-t29
-sub-t29 c = let d = pushed (c .before .before .before .before .before .before .before) in omega (arith, d .bottom≤top, c .lowest .ensures, c .before .before .highest .ensures)
+sub-t29 c =
+    let d = pushed (c .before .before .before .before .before .before .before) in
+    omega (arith, d .bottom≤top, c .lowest .ensures, c .before .before .highest .ensures)
 
 same-length : tie.Need-same-length
 same-length c = pushed (c .before .before .before .before .before .before .before) .long
