@@ -2,8 +2,8 @@
 mod input; // standard input
 
 fn main() {
-    let mut sheet = bench_text::buffers::sheet_buffer();
-    let mut text = bench_text::buffers::text_buffer();
+    let mut sheet = text::buffers::sheet_buffer();
+    let mut text = text::buffers::text_buffer();
     let input = input::read_input(libc::STDIN_FILENO, &mut sheet);
     if input.failed {
         os::fail(b"bench: standard input");
@@ -11,7 +11,7 @@ fn main() {
     }
     let n = input.length;
     // Done for every sheet: the buffer is long enough for any text.
-    let printed = bench_text::bench::bench(&sheet[..n], &mut text);
+    let printed = text::bench::bench(&sheet[..n], &mut text);
     let length = printed.length;
     if !io::write_all(libc::STDOUT_FILENO, &text[..length]) {
         os::fail(b"bench: standard output");

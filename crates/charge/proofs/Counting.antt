@@ -11,7 +11,7 @@ use Rattle.theory.specs.Levels.{permutationOf, pushLevel}
 use Rattle.theory.specs.CountUp.{nextCell, countUp}
 use Rattle.theory.proofs.Splits.{successor-bounds}
 use Rattle.theory.proofs.Reading.{reading}
-use Rattle.permutation.proofs.Rows.{push-row}
+use Rattle.permutation.proofs.PushedRows.{push-row}
 use Rattle.charge.specs.Counting.{Ready}
 use Rattle.charge.proofs.Sorting.{row-long, row-first}
 use Rattle.charge.proofs.Pushing.{StandsAt, stands-at, stands-push}

@@ -10,16 +10,15 @@ use Rattle.theory.specs.Reasons.{value}
 use Rattle.theory.specs.Permutation.{IsPermutation}
 use Rattle.theory.specs.Push.{push}
 use Rattle.theory.specs.Successor.{successor}
-use Rattle.theory.specs.Rank.{rank}
 use Rattle.theory.proofs.Cases.{by-name}
 use Rattle.theory.proofs.Padding.{padding}
 use Rattle.theory.proofs.Stepping.{push-permutation}
 use Rattle.permutation.specs.Records.{listOf, recordOf, faultOf}
-use Rattle.permutation.specs.Answers.{given, orElse, permuted, refused, pushNumber, pushed, placed, ranked}
+use Rattle.permutation.specs.Answers.{given, orElse, permuted, refused, pushNumber, pushed, placed}
 use Rattle.permutation.specs.declared.answers.Permutation.{Permutation}
 use Rattle.permutation.specs.declared.answers.Permuted.{Permuted}
 use Rattle.permutation.proofs.Records.{Sound, fault-record}
-use Rattle.permutation.proofs.Rows.{push-row}
+use Rattle.permutation.proofs.PushedRows.{push-row}
 
 -- what is given, by the number
 pub given-done : {A : Type 0} (number : ℕ) (a z : A) → number ≡ 0 → given number a z ≡ a
@@ -81,10 +80,6 @@ module _ (n : ℕ) (xs : List ℕ) (few : 2 ≤ n) (many : n ≤ 20) (o : IsPerm
   pub placed-record : placed (recordOf xs) ≡ record { number = 0; place = successor n xs }
   unfolding placed
   placed-record = rw (fault-record n xs few many o, list-record, o .long)
-
-  pub ranked-record : ranked (recordOf xs) ≡ record { number = 0; rank = rank n xs }
-  unfolding ranked
-  ranked-record = rw (fault-record n xs few many o, list-record, o .long)
 
   pub pushed-record : (i : ℕ) → 2 ≤ i → i ≤ n → pushed (recordOf xs) i ≡ record { number = 0; permutation = recordOf (push i xs) }
   unfolding pushed pushNumber

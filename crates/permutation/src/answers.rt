@@ -21,18 +21,6 @@ pub struct Placed {
     pub place: usize,
 }
 
-#[repr(C)]
-pub struct Digits {
-    pub number: u8,
-    pub row: [u8; 20],
-}
-
-#[repr(C)]
-pub struct Ranked {
-    pub number: u8,
-    pub rank: u64,
-}
-
 // A job that was to answer a permutation is refused: zeros beside the number. For the jobs of other crates too.
 pub fn refuse(number: u8) -> Permuted
     ensures { λ r. ⌜ r ≡ refused number ⌝ }

@@ -1,12 +1,8 @@
-// Permutations of a group's cells: push, successor, digits, rank and unrank. Each answer is proved equal to a meaning of `specs/Answers`, for every input.
+// Permutations of a group's cells: push and successor. Each answer is proved equal to a meaning of `specs/Answers`, for every input.
 pub mod answers; // the record and the answers
 pub mod cell; // a byte of a row as a wider number
-pub mod digits; // the b-factoradic digits
-pub mod factorials; // the table of factorials
 pub mod insert; // a cell put in among others
 pub mod push; // push to the top
-pub mod rank; // the rank
 pub mod reasons; // why a job is refused
 pub mod successor; // the place that the next step pushes
-pub mod unrank; // the permutation of a rank
 pub mod validity; // is a record a permutation, and each cell's spot

@@ -7,9 +7,9 @@ use super::text::mark;
 use super::text::number;
 use super::text::record;
 use permutation::answers::Permutation;
-use permutation::digits::digits;
-use permutation::rank::rank;
 use permutation::successor::successor;
+use ranking::digits::digits;
+use ranking::rank::rank;
 use runs::steps::run_steps;
 
 pub fn ranked(text: &mut Text, at: usize, permutation: Permutation) -> usize {

@@ -22,12 +22,12 @@ use charge::answers::Pushes;
 use charge::count_up::count_up;
 use charge::push_level::push_level;
 use charge::read::read;
-use rewriting::answers::Symbol;
-use rewriting::read_symbol::read_symbol;
-use rewriting::store::store;
 use runs::answers::RanLevels;
 use runs::calls::run_calls;
 use runs::level_steps::run_levels;
+use symbols::answers::Symbol;
+use symbols::read_symbol::read_symbol;
+use symbols::store::store;
 
 // The number, the pushes done, and the levels left.
 pub fn left(text: &mut Text, at: usize, answer: Pushes, list: &[u16]) -> usize {

@@ -20,7 +20,7 @@ use super::text::write;
 use super::walk::walk;
 use permutation::answers::Permutation;
 use permutation::push::push;
-use permutation::unrank::unrank;
+use ranking::unrank::unrank;
 
 const RANK: u8 = 1;
 

@@ -11,10 +11,10 @@ use super::text::mark;
 use super::text::number;
 use super::text::row;
 use permutation::answers::Permutation;
-use rewriting::prefix::prefix;
-use rewriting::read_symbol::read_symbol;
 use rewriting::rewrite::rewrite;
-use rewriting::store::store;
+use symbols::prefix::prefix;
+use symbols::read_symbol::read_symbol;
+use symbols::store::store;
 
 fn rewrote(
     text: &mut Text,

@@ -6,11 +6,11 @@ use super::text::mark;
 use super::text::record;
 use super::text::words;
 use permutation::answers::Permutation;
-use permutation::factorials::factorial;
 use permutation::push::push;
-use permutation::rank::rank;
 use permutation::successor::successor;
-use permutation::unrank::unrank;
+use ranking::factorials::factorial;
+use ranking::rank::rank;
+use ranking::unrank::unrank;
 
 fn step(permutation: Permutation) -> Permutation {
     push(permutation, successor(permutation).place).permutation

@@ -1,5 +1,3 @@
--- The meanings that the contracts cite: first those that a reader of the public contracts needs, then those of the private ones.
+-- The meanings that the contracts cite: first those that a reader of the public contracts needs, then those of the inner ones.
 pub mod Answers
 pub mod Raising
-pub mod Passing
-pub mod Numbering

@@ -1,10 +1,3 @@
-// Rewrite levels to a target permutation, store a symbol, read one. Each answer, and every lent list at exit, are proved equal to a meaning of
-// `specs/Answers`, for every input.
-pub mod answers; // what reading a symbol and the prefix of a symbol answer
-mod number; // the number of the prefix that leads a permutation
-pub mod prefix; // the prefix of a symbol
-mod prefix_length; // the length of the prefixes of a code
-mod raise; // a row's first cells pushed
-pub mod read_symbol; // the symbol of levels
+// Rewrite levels to a target permutation. The answer, and every lent list at exit, are proved equal to a meaning of `specs/Answers`, for every input.
+pub mod raise; // a row's first cells pushed
 pub mod rewrite; // to a target permutation
-pub mod store; // a symbol

@@ -17,10 +17,10 @@ use Rattle.theory.proofs.LevelRun.{run-length, run-reads, run-highest, next-top
 use Rattle.theory.proofs.Calls.{calling}
 use Rattle.theory.proofs.CallLists.{granted}
 use Rattle.theory.proofs.Demand3.{demand3}
-use Rattle.permutation.specs.Answers.{ranked}
+use Rattle.ranking.specs.Answers.{ranked}
 use Rattle.permutation.specs.declared.answers.Permutation.{Permutation}
-use Rattle.permutation.specs.declared.answers.Ranked.{Ranked}
-use Rattle.permutation.proofs.Answering.{ranked-record}
+use Rattle.ranking.specs.declared.answers.Ranked.{Ranked}
+use Rattle.ranking.proofs.Values.{ranked-record}
 use Rattle.charge.specs.Answers.{reading}
 use Rattle.charge.proofs.Numbers.{Readable}
 use Rattle.runs.specs.Steps.{pushCounts, countIn}

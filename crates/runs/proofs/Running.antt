@@ -15,13 +15,15 @@ use Rattle.theory.proofs.Padding.{row-at}
 use Rattle.theory.proofs.Stepping.{stepping}
 use Rattle.theory.proofs.Demand3.{demand3}
 use Rattle.permutation.specs.Records.{listOf, recordOf, faultOf}
-use Rattle.permutation.specs.Answers.{placed, pushed, ranked}
+use Rattle.permutation.specs.Answers.{placed, pushed}
+use Rattle.ranking.specs.Answers.{ranked}
 use Rattle.permutation.specs.declared.answers.Permutation.{Permutation}
 use Rattle.permutation.specs.declared.answers.Permuted.{Permuted}
 use Rattle.permutation.specs.declared.answers.Placed.{Placed}
-use Rattle.permutation.specs.declared.answers.Ranked.{Ranked}
+use Rattle.ranking.specs.declared.answers.Ranked.{Ranked}
 use Rattle.permutation.proofs.Records.{Sound}
-use Rattle.permutation.proofs.Answering.{placed-record, ranked-record, pushed-record, list-record}
+use Rattle.permutation.proofs.Answering.{placed-record, pushed-record, list-record}
+use Rattle.ranking.proofs.Values.{ranked-record}
 use Rattle.runs.specs.Steps.{pushCounts, ran, countIn, RunOf}
 use Rattle.runs.specs.declared.answers.Ran.{Ran}
 use Rattle.runs.proofs.PushCounts.{Tallied, tallied, counts-none, counts-at}

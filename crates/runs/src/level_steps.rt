@@ -11,8 +11,8 @@ use charge::judge::lowest;
 use charge::push_level::push_level;
 use charge::read::read;
 use permutation::cell::wide;
-use permutation::rank::rank;
 use permutation::successor::successor;
+use ranking::rank::rank;
 
 // What a step did: the cell that it pushed, by how much it raised it, and the highest level less the lowest after it.
 struct Stepped {

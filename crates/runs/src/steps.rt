@@ -6,8 +6,8 @@ use super::answers::Ran;
 use permutation::answers::Permutation;
 use permutation::cell::wide;
 use permutation::push::push;
-use permutation::rank::rank;
 use permutation::successor::successor;
+use ranking::rank::rank;
 
 // The rank is worked out from the record that the run ends with. The second clause is demand 3 on permutations: the run from any permutation, for every k.
 pub fn run_steps(permutation: Permutation, k: u64) -> Ran

@@ -4,7 +4,7 @@ use Prim.Native.Nat.{ℕ}
 use native.Mathlib.Omega.{arith}
 use Rattle.sheet.specs.Bytes.{Fault, missized, tied, ill-formed, numberOf, Got, fault, got}
 use Rattle.sheet.specs.Held.{sheetRead}
-use Rattle.sheet.specs.Rows.{groupRead, entryRead}
+use Rattle.sheet.specs.Parts.{groupRead, entryRead}
 use Rattle.sheet.specs.declared.held.SheetRead.{SheetRead}
 use Rattle.sheet.specs.declared.groups.GroupRead.{GroupRead}
 use Rattle.sheet.specs.declared.commands.EntryRead.{EntryRead}

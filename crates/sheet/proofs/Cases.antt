@@ -11,7 +11,7 @@ use Rattle.theory.specs.Levels as levels
 use Rattle.theory.proofs.Cases.{by-le}
 use Rattle.sheet.specs.Bytes.{Fault, missized, tied, ill-formed, fault, got, after, check, many, little}
 use Rattle.sheet.specs.Sheet.{group, entry, countAt, rewriteAt, storeAt, bodyAt, command, commandRow, commands, sheet}
-use Rattle.sheet.specs.Rows.{numbers}
+use Rattle.sheet.specs.Parts.{numbers}
 use Rattle.sheet.specs.declared.held.Action.the-variants.{Count, Rewrite, Store}
 use Rattle.sheet.specs.declared.held.Entry.{Entry}
 use Rattle.sheet.proofs.Reading.{number-there, number-short, byte-there, row-there, row-short}

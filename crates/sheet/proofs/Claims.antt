@@ -4,7 +4,7 @@ use Rattle.sheet.specs.Bytes.{after, check, many, little, number}
 use Rattle.sheet.specs.Sheet.{group, countAt, rewriteAt, storeAt, bodyAt, command, commandRow, commands, sheet}
 use Rattle.sheet.specs.Claims.{Sheets}
 use Rattle.sheet.proofs.Valid.{valid}
-use Rattle.sheet.proofs.Rows.{contents-back}
+use Rattle.sheet.proofs.InMemory.{contents-back}
 use Rattle.sheet.proofs.Longest.{longest, decided}
 
 pub sheets : Sheets

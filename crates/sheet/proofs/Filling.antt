@@ -11,7 +11,7 @@ use Rattle.theory.proofs.Padding.{padded-none, padded-snoc}
 use Rattle.sheet.specs.Held.{groupsIn}
 use Rattle.sheet.specs.Standing.{GroupsHeld}
 use Rattle.sheet.specs.declared.held.Groups.{Groups}
-use Rattle.sheet.proofs.Rows.{held-count}
+use Rattle.sheet.proofs.InMemory.{held-count}
 
 module _ (f : List ℕ → ℕ) (groups : Groups) where
   -- after g groups

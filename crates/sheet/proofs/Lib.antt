@@ -1,7 +1,7 @@
 -- The proofs of the claims, and the laws that the proofs of the functions share.
 pub mod Inversion
 pub mod Valid
-pub mod Rows
+pub mod InMemory
 pub mod Filling
 pub mod Longest
 pub mod Claims

@@ -14,7 +14,7 @@ use Rattle.theory.proofs.Cases.{by-le}
 use Rattle.sheet.specs.Bytes.{Fault, missized, tied as fault-tied, ill-formed, Got, fault, got, after, check, many, number}
 use Rattle.sheet.specs.Sheet.{group, countAt, rewriteAt, storeAt, bodyAt, command, Contents, commandRow, commands, sheet}
 use Rattle.sheet.specs.Claims.{longestSheet}
-use Rattle.sheet.specs.Rows.{Small}
+use Rattle.sheet.specs.Parts.{Small}
 use Rattle.sheet.proofs.Inversion.{never, after-got, check-got}
 use Rattle.sheet.proofs.Valid.{groups-readable, valid, small}
 

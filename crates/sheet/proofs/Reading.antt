@@ -12,7 +12,7 @@ use Rattle.theory.specs.Permutation.{row}
 use Rattle.theory.proofs.Cases.{by-le}
 use Rattle.theory.proofs.Padding.{padded-snoc}
 use Rattle.sheet.specs.Bytes.{ill-formed, fault, got, after, check, many, little, number}
-use Rattle.sheet.specs.Rows.{numbers}
+use Rattle.sheet.specs.Parts.{numbers}
 
 module _ (s : List ℕ) where
   pub number-there : (k at : ℕ) → at + k ≤ length s → number k s at ≡ got (little (take k (drop at s))) (at + k)

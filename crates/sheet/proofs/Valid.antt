@@ -17,7 +17,7 @@ use Rattle.sheet.specs.Bytes.{got, many, number}
 use Rattle.sheet.specs.Sheet.{group, countAt, rewriteAt, storeAt, bodyAt, command, Contents, commandRow, commands, sheet}
 use Rattle.sheet.specs.Held.{noEntry}
 use Rattle.sheet.specs.Claims.{Each, Valid}
-use Rattle.sheet.specs.Rows.{Small}
+use Rattle.sheet.specs.Parts.{Small}
 use Rattle.sheet.proofs.Inversion.{never, after-got, check-got, many-length, many-each}
 
 -- ---- a group, and the groups

@@ -3,5 +3,5 @@ pub mod Bytes
 pub mod Sheet
 pub mod Held
 pub mod Claims
-pub mod Rows
+pub mod Parts
 pub mod Standing

@@ -1,4 +1,4 @@
--- Groups and sheets in memory as code finds them: read, or left by commands. Only inner contracts cite these, here and in `bench_text`. Assumes nothing.
+-- Groups and sheets in memory as code finds them: read, or left by commands. Only inner contracts cite these, here, in `work` and in `text`. Assumes nothing.
 use mathlib.Core.Path.{_≡_}
 use Prim.Native.Nat.{_≤_}
 use Rattle.charge.specs.Answers.{readNumber}

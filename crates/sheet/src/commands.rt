@@ -6,7 +6,7 @@ ghost use lib.ListN.{length};
 ghost use Rattle.theory.specs.Permutation.{row};
 ghost use Rattle.sheet.specs.Sheet as meaning;
 ghost use Rattle.sheet.specs.Held.{noEntry};
-ghost use Rattle.sheet.specs.Rows.{entryRead, numbers, Small};
+ghost use Rattle.sheet.specs.Parts.{entryRead, numbers, Small};
 use super::held::Action;
 use super::held::Command;
 use super::held::Entry;

@@ -5,7 +5,7 @@ ghost use lib.ListN.{length};
 ghost use Rattle.theory.specs.Permutation.{row};
 ghost use Rattle.sheet.specs.Sheet as meaning;
 ghost use Rattle.sheet.specs.Held.{noGroup};
-ghost use Rattle.sheet.specs.Rows.{groupRead, numbers};
+ghost use Rattle.sheet.specs.Parts.{groupRead, numbers};
 use super::held::Group;
 use super::held::no_group;
 use super::little::little;

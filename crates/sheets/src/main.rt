@@ -12,13 +12,13 @@ fn print_sheet(i: usize) -> bool {
         os::fail(&path[..named]);
         return false;
     }
-    let mut sheet = bench_text::buffers::sheet_buffer();
-    let mut text = bench_text::buffers::text_buffer();
+    let mut sheet = text::buffers::sheet_buffer();
+    let mut text = text::buffers::text_buffer();
     let n = io::read_full(fd, &mut sheet);
     libc::close(fd);
     io::write_all(libc::STDOUT_FILENO, &path[..named]);
     io::write_all(libc::STDOUT_FILENO, b"\n");
-    let printed = bench_text::bench::bench(&sheet[..n], &mut text);
+    let printed = text::bench::bench(&sheet[..n], &mut text);
     let length = printed.length;
     io::write_all(libc::STDOUT_FILENO, &text[..length])
 }

@@ -6,7 +6,7 @@ use borrow.Author.Needs.{needs}
 use lib.ListN.{getD}
 use Rattle.theory.specs.CountUp.{callNumber}
 use Rattle.permutation.specs.declared.answers.Permuted.{Permuted}
-use Rattle.permutation.specs.declared.answers.Ranked.{Ranked}
+use Rattle.ranking.specs.declared.answers.Ranked.{Ranked}
 use Rattle.charge.specs.Counting.{callJudged}
 use Rattle.charge.specs.declared.judge.Call.{Call}
 use Rattle.runs.proofs.LevelRunning.{RunningLevels, levels-none, levels-long, step-granted, step-inside, levels-more}

@@ -6,7 +6,7 @@ use Rattle.permutation.specs.Records.{listOf, faultOf}
 use Rattle.permutation.specs.Answers.{placed}
 use Rattle.permutation.specs.declared.answers.Permuted.{Permuted}
 use Rattle.permutation.specs.declared.answers.Placed.{Placed}
-use Rattle.permutation.specs.declared.answers.Ranked.{Ranked}
+use Rattle.ranking.specs.declared.answers.Ranked.{Ranked}
 use Rattle.permutation.proofs.Records.{Sound, sound}
 use Rattle.runs.proofs.PushCounts.{Tallied}
 use Rattle.runs.proofs.Running.{Running, running-none, step-tallied, running-more, ran-done, run-record, ran-refused}

@@ -5,7 +5,7 @@ use native.Mathlib.Nat.{one-mul}
 use native.Mathlib.Omega.{arith}
 use borrow.Author.Needs.{needs}
 use Rattle.theory.specs.Permutation.{row}
-use Rattle.sheet.specs.Rows.{numbers}
+use Rattle.sheet.specs.Parts.{numbers}
 use Rattle.sheet.proofs.Reading.{byte-spelled, numbers-more}
 use Rattle.sheet.proofs.commands.names_at.Statement.{statement}
 use Rattle.sheet.proofs.commands.names_at.Tie as tie

@@ -4,7 +4,7 @@ use Prim.Native.Nat.{_-_, _≤_}
 use native.Mathlib.Omega.{arith}
 use borrow.Author.Needs.{needs}
 use Rattle.theory.specs.Permutation.{row}
-use Rattle.sheet.specs.Rows.{numbers}
+use Rattle.sheet.specs.Parts.{numbers}
 use Rattle.sheet.proofs.Reading.{numbers-more}
 use Rattle.sheet.proofs.groups.levels_at.Statement.{statement}
 use Rattle.sheet.proofs.groups.levels_at.Tie as tie

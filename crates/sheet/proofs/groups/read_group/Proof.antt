@@ -5,7 +5,7 @@ use native.Mathlib.Omega.{arith}
 use borrow.Author.Needs.{needs}
 use lib.ListN.{take}
 use lib.Seq.{take-at}
-use Rattle.sheet.specs.Rows.{groupRead, numbers}
+use Rattle.sheet.specs.Parts.{groupRead, numbers}
 use Rattle.sheet.proofs.Reading.{numbers-length}
 use Rattle.sheet.proofs.Cases.{Sized, group-end, group-small, group-large, group-short, group-tied, group-there}
 use Rattle.sheet.proofs.groups.read_group.Statement.{statement}

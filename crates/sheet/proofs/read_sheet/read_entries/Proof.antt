@@ -10,13 +10,13 @@ use Rattle.sheet.specs.Bytes.{Got}
 use Rattle.sheet.specs.Sheet.{command}
 use Rattle.theory.specs.Lists.{padded}
 use Rattle.sheet.specs.Held.{noEntry, sheetRead, groupsIn}
-use Rattle.sheet.specs.Rows.{entryRead}
+use Rattle.sheet.specs.Parts.{entryRead}
 use Rattle.sheet.specs.declared.held.Groups.{Groups}
 use Rattle.sheet.specs.declared.held.Entry.{Entry}
 use Rattle.sheet.specs.declared.held.Sheet.{Sheet}
 use Rattle.sheet.specs.declared.commands.EntryRead.{EntryRead}
 use Rattle.sheet.proofs.Valid.{small}
-use Rattle.sheet.proofs.Rows.{sizes-front, sheet-held}
+use Rattle.sheet.proofs.InMemory.{sizes-front, sheet-held}
 use Rattle.sheet.proofs.Loops.{Turns, turns-none, turns-more, turns-stop, turns-all, turns-long}
 use Rattle.sheet.proofs.Answers.{entry-numbered, answered-fault, answered-got}
 use Rattle.sheet.proofs.Cases.{row-fault, row-more, row-ends}

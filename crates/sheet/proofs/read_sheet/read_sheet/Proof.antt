@@ -6,10 +6,10 @@ use native.Mathlib.Omega.{arith}
 use borrow.Author.Needs.{needs}
 use Rattle.sheet.specs.Sheet.{group, commands}
 use Rattle.sheet.specs.Held.{groupOf, noGroup, groupsOf, sheetRead, groupsIn}
-use Rattle.sheet.specs.Rows.{groupRead}
+use Rattle.sheet.specs.Parts.{groupRead}
 use Rattle.sheet.specs.declared.held.Groups.{Groups}
 use Rattle.sheet.specs.declared.groups.GroupRead.{GroupRead}
-use Rattle.sheet.proofs.Rows.{groups-back, read-hold}
+use Rattle.sheet.proofs.InMemory.{groups-back, read-hold}
 use Rattle.sheet.proofs.Loops.{Turns, turns-none, turns-more, turns-stop, turns-all, turns-long}
 use Rattle.sheet.proofs.Answers.{group-numbered, answered-fault, answered-got}
 use Rattle.sheet.proofs.Cases.{sheet-none, sheet-few, sheet-many, sheet-fault, sheet-groups}

@@ -4,7 +4,7 @@ use Prim.Native.Nat.{_-_}
 use borrow.Author.Needs.{needs}
 use lib.ListN.{length}
 use Rattle.sheet.specs.declared.held.Group.{Group}
-use Rattle.sheet.proofs.Rows.{held-at}
+use Rattle.sheet.proofs.InMemory.{held-at}
 use Rattle.sheet.proofs.Filling.{Filled, filled-none, filled-more, filled-all}
 use Rattle.sheet.proofs.read_sheet.sizes_of.Statement.{statement}
 use Rattle.sheet.proofs.read_sheet.sizes_of.Tie as tie

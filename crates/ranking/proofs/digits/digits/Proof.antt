@@ -1,0 +1,42 @@
+-- `ranking::digits::digits` meets its contract: the digits by spots are the permutation's digits. Assumes nothing.
+use mathlib.Core.Path.{refl, ap}
+use mathlib.Core.List.{List}
+use Prim.Native.Nat.{ℕ}
+use native.Mathlib.Omega.{arith}
+use borrow.Author.Needs.{needs}
+use borrow.Author.Tests.{ne-eqb}
+use Rattle.ranking.specs.Answers.{digited}
+use Rattle.permutation.proofs.Records.{Sound}
+use Rattle.permutation.proofs.Checking.{check-number, check-sound, check-spots}
+use Rattle.ranking.proofs.BySpots.{spots-low, read-row}
+use Rattle.ranking.proofs.digits.digits.Statement.{statement}
+use Rattle.ranking.proofs.digits.digits.Tie as tie
+
+check-requires : tie.Need-check-requires
+check-requires c κs = search needs
+
+returns : tie.Need-returns
+unfolding digited
+returns c = rw (← check-number _ (c .before .check .ensures), ne-eqb _ _ (c .if1 .taken))
+
+-- past the test, the record is a permutation's
+sound-now : (c : tie.Else1) → Sound (c .before .before .args .permutation)
+sound-now c = check-sound _ (c .before .check .ensures) (search needs) (c .if1 .left)
+
+read-down-requires : tie.Need-read-down-requires
+read-down-requires c κs =
+    let past = c .before .before .before in
+    let s = sound-now past in
+    (s .many, omega arith, omega arith, refl, spots-low (s .many) (s .permutation) (check-spots _ (past .before .check .ensures) s))
+
+returns-2 : tie.Need-returns-2
+unfolding digited
+returns-2 c =
+    let past = c .before .before .before .before in
+    let s = sound-now past in
+    rw (s .fault)
+    (ap (λ (l : List ℕ). record { number = 0; row = l })
+    (read-row (s .many) (s .permutation) (check-spots _ (past .before .check .ensures) s) (c .read-down .ensures)))
+
+pub digits-spec : {M : Type 1} → statement M
+digits-spec = tie.close (tie.spec check-requires returns read-down-requires returns-2)

@@ -1,0 +1,33 @@
+-- What the public functions answer, for all inputs. "A job sent back gives the number, 0 for every other number, an order record or digit row of zeros".
+-- Assumes nothing.
+use mathlib.Core.Bool.{cond}
+use mathlib.Core.List.{[]}
+use Prim.Native.Nat.{ℕ}
+use lib.Dec.{ltb}
+use Rattle.theory.specs.Reasons.{done, size, value, sized}
+use Rattle.theory.specs.Factorial.{factorial}
+use Rattle.theory.specs.Permutation.{row}
+use Rattle.theory.specs.Rank.{rank, digits}
+use Rattle.theory.specs.Unrank.{unrank}
+use Rattle.permutation.specs.Records.{listOf, faultOf}
+use Rattle.permutation.specs.Answers.{given, permuted}
+use Rattle.permutation.specs.declared.answers.Permutation.{Permutation}
+use Rattle.permutation.specs.declared.answers.Permuted.{Permuted}
+use Rattle.ranking.specs.declared.answers.Digits.{Digits}
+use Rattle.ranking.specs.declared.answers.Ranked.{Ranked}
+
+-- "Digits b0 first, n of them, the last always 0, in a row of twenty with 0 past n."
+unfoldable pub digited : Permutation → Digits
+digited p = record { number = faultOf p; row = row (given (faultOf p) (digits (p .n) (listOf p)) []) }
+
+-- "Rank = digit + n × rank of the remaining order"
+unfoldable pub ranked : Permutation → Ranked
+ranked p = record { number = faultOf p; rank = given (faultOf p) (rank (p .n) (listOf p)) 0 }
+
+-- "rank at or above n!" is value
+unfoldable pub unrankNumber : ℕ → ℕ → ℕ
+unrankNumber n r = cond (sized n) (cond (ltb r (factorial n)) done value) size
+
+-- "order of a rank"
+unfoldable pub unranked : ℕ → ℕ → Permuted
+unranked n r = permuted (unrankNumber n r) (unrank n r)

@@ -1,0 +1,113 @@
+-- What each way out of the prefix of a symbol answers: a number where there is none, or the row of its cells. Assumes nothing.
+use mathlib.Core.Path.{_≡_}
+use mathlib.Core.Bool.{true, and-false}
+use mathlib.Core.List.{List, _++_}
+use Prim.Native.Nat.{ℕ, _≤_, _<_}
+use native.Mathlib.Omega.{arith}
+use borrow.Author.Tests.{ne-eqb, le-leb, lt-leb, lt-ltb, le-ltb}
+use lib.Dec.{leb}
+use lib.ListN.{length, take, drop, replicate, length-append, length-drop}
+use lib.Seq.{take-at}
+use Rattle.theory.specs.Reasons.{done, size, value}
+use Rattle.theory.specs.Factorial.{factorial, falling}
+use Rattle.theory.specs.Permutation.{row}
+use Rattle.theory.specs.Lists.{names, without}
+use Rattle.theory.specs.Prefix.{IsPrefix, prefixAt, prefixLength, symbolPrefix}
+use Rattle.theory.proofs.Cases.{by-le}
+use Rattle.theory.proofs.Factorials.{falling-quotient}
+use Rattle.theory.proofs.Names.{names-length}
+use Rattle.theory.proofs.Numbering.{over-length}
+use Rattle.theory.proofs.Prefixes.{names-distinct, prefix-over, prefixAt-prefix, coding}
+use Rattle.symbols.specs.Answers.{coded, prefixReason, prefixed}
+use Rattle.symbols.specs.declared.answers.Prefixed.{Prefixed}
+use Rattle.symbols.proofs.Writing.{cleared}
+
+abbrev zeros : List ℕ
+zeros = replicate 20 0
+
+-- ---- none
+
+abbrev none : ℕ → Prefixed
+none k = record { number = k; length = 0; cells = zeros }
+
+module _ (n m s : ℕ) where
+  refused : (k : ℕ) → prefixReason n m s ≡ k → (k ≡ 0 → ⊥) → none k ≡ prefixed n m s
+  unfolding prefixed
+  refused k e h = rw (e, ne-eqb k 0 h)
+
+  pub too-few : n < 2 → none size ≡ prefixed n m s
+  unfolding prefixReason
+  too-few h = refused size (rw (lt-leb 2 n h)) (λ z. omega arith)
+
+  pub too-many : 20 < n → none size ≡ prefixed n m s
+  unfolding prefixReason
+  too-many h = refused size (rw (lt-leb n 20 h, and-false (leb 2 n))) (λ z. omega arith)
+
+  module _ (few : 2 ≤ n) (many : n ≤ 20) where
+    pub too-large : factorial n < m → none value ≡ prefixed n m s
+    unfolding prefixReason
+    too-large h = refused value (rw (le-leb 2 n few, le-leb n 20 many, lt-leb m (factorial n) h, and-false (leb 1 m))) (λ z. omega arith)
+
+    pub no-symbol : m ≤ s → none value ≡ prefixed n m s
+    unfolding prefixReason
+    no-symbol h = refused value (rw (le-leb 2 n few, le-leb n 20 many, le-ltb s m h, and-false)) (λ z. omega arith)
+
+-- ---- the prefix of symbol s of m on n cells
+pub record Coded (n m s : ℕ) : Type 0 where
+  pub few : 2 ≤ n
+  pub many : n ≤ 20
+  pub most : m ≤ factorial n
+  pub below : s < m
+
+pub coded-right : {n m s : ℕ} → Coded n m s → coded n m ≡ true
+coded-right {n} {m} v = rw (le-leb 1 m (omega (arith, v .below)), le-leb m (factorial n) (v .most))
+
+pub prefix-done : {n m s : ℕ} → Coded n m s → prefixReason n m s ≡ done
+unfolding prefixReason
+prefix-done {n} {m} {s} v = rw (le-leb 2 n (v .few), le-leb n 20 (v .many), coded-right v, lt-ltb s m (v .below))
+
+-- it has a prefix where there is no reason against it
+pub in-range : {n m s : ℕ} → 2 ≤ n → n ≤ 20 → prefixReason n m s ≡ done → Coded n m s
+unfolding prefixReason
+in-range {n} {m} {s} few many h =
+    let sized = le-leb 2 n few in
+    let sized-too = le-leb n 20 many in
+    by-le m (factorial n)
+    (λ most. by-le m s
+    (λ l. absurd (omega (arith, rw (sized, sized-too, le-ltb s m l, and-false (coded n m)) at h)))
+    (λ below. record { few = few; many = many; most = most; below = below }))
+    (λ l. absurd (omega (arith, rw (sized, sized-too, lt-leb m (factorial n) l, and-false (leb 1 m)) at h)))
+
+-- p is its length
+module _ {n m s : ℕ} (v : Coded n m s) {p : ℕ} (e : p ≡ prefixLength n m) where
+  pub short : p ≤ n
+  short = rw e (coding n m (v .most) .at-most)
+
+  pub fits : s < falling n p
+  fits = rw (e, falling-quotient n (prefixLength n m) (coding n m (v .most) .at-most)) (omega (arith, v .below, coding n m (v .most) .enough))
+
+  is-prefix : IsPrefix n p (prefixAt n p s)
+  is-prefix = prefixAt-prefix n p s fits
+
+  -- the row: the names and zeros,
+  module _ {named : List ℕ} (named-is : named ≡ names n ++ drop n zeros) where
+    pub named-long : length named ≡ 20
+    named-long = rw (named-is, length-append, names-length 1 n, length-drop n zeros) (omega (arith, v .many))
+
+    pub named-first : take n named ≡ names n
+    named-first = rw named-is (take-at (names n) (drop n zeros) n (names-length 1 n))
+
+    -- then the prefix and the names that are left,
+    module _ {led : List ℕ} (led-is : led ≡ prefixAt n p s ++ (without (prefixAt n p s) (names n) ++ drop n named)) where
+      pub led-long : length led ≡ 20
+      led-long =
+          rw (led-is, length-append, length-append, length-drop n named, named-long)
+          (omega (arith, v .many, over-length (names n) (prefixAt n p s) (names-distinct n) (prefix-over is-prefix), names-length 1 n))
+
+      -- then the prefix and zeros
+      led-cleared : cleared p led ≡ row (prefixAt n p s)
+      led-cleared = rw (led-is, take-at (prefixAt n p s) (without (prefixAt n p s) (names n) ++ drop n named) p (is-prefix .long), is-prefix .long)
+
+      pub coded-done : {cells : List ℕ} → cells ≡ cleared p led → _≡_ {A = Prefixed} (record { number = 0; length = p; cells = cells }) (prefixed n m s)
+      unfolding prefixed symbolPrefix
+      coded-done is = rw (is, led-cleared, prefix-done v, e)

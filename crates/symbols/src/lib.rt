@@ -1,0 +1,7 @@
+// Store a symbol, read one. Each answer, and the levels at exit, are proved equal to a meaning of `specs/Answers`, for every input.
+pub mod answers; // what reading a symbol and the prefix of a symbol answer
+mod number; // the number of the prefix that leads a permutation
+pub mod prefix; // the prefix of a symbol
+mod prefix_length; // the length of the prefixes of a code
+pub mod read_symbol; // the symbol of levels
+pub mod store; // a symbol

@@ -1,0 +1,51 @@
+// Store a symbol: its prefix comes to the top.
+ghost use mathlib.Core.Path.{_≡_};
+ghost use Prim.Native.Nat.{_≤_};
+ghost use lib.ListN.{length};
+ghost use Rattle.symbols.specs.Answers.{stored, storeLevels, StoreOf};
+ghost use Rattle.symbols.specs.PassedOver as passing;
+use super::prefix::prefix;
+use charge::answers::Pushes;
+use charge::read::read;
+use rewriting::raise::raise;
+
+// How many of the prefix's p cells are pushed. Only the last, which is handled first, can be on top when its turn comes.
+fn unpassed(prefix: &[u8; 20], p: usize, top: u8) -> usize
+    requires { ⌜ (p ≤ 20) × (length (now prefix) ≡ 20) ⌝ }
+    ensures { λ r. ⌜ r ≡ passing.unpassed (now (prefix .entry)) p top ⌝ }
+{
+    if p == 0 {
+        return 0;
+    }
+    if prefix[p - 1] == top {
+        return p - 1;
+    }
+    p
+}
+
+// The last clause: what the levels then are read as, and that the symbol is read back.
+pub fn store(levels: &mut [u16], m: u64, symbol: u64) -> Pushes
+    ensures { λ r. ⌜ r ≡ stored (now (levels .entry)) m symbol ⌝ }
+    ensures { λ _. ⌜ now (levels .exit) ≡ storeLevels (now (levels .entry)) m symbol ⌝ }
+    ensures { λ r. ⌜ (r .number ≡ 0 → StoreOf (now (levels .entry)) m symbol (now (levels .exit))) ⌝ }
+{
+    let standing = read(levels);
+    if standing.number != 0 {
+        return Pushes {
+            number: standing.number,
+            pushes: 0,
+        };
+    }
+    let found = prefix(levels.len(), m, symbol);
+    if found.number != 0 {
+        return Pushes {
+            number: found.number,
+            pushes: 0,
+        };
+    }
+    let cells = standing.permutation.cells;
+    let to = found.cells;
+    let p = found.length;
+    let r = unpassed(&to, p, cells[0]);
+    raise(levels, &to, r)
+}

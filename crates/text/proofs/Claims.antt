@@ -1,0 +1,26 @@
+-- What holds of every text; document 01's sheet has its output, by computing. Assumes nothing.
+use mathlib.Core.Path.{ap}
+use Rattle.theory.specs.CountUp.{callNumber, callPushes, callLevels, countUp, nextCell}
+use Rattle.theory.specs.Lists.{delta}
+use Rattle.theory.specs.Levels.{insertByLevel, sortByLevel, permutationOf, pushLevel}
+use Rattle.theory.specs.Successor.{successor, smaller}
+use Rattle.theory.specs.Permutation.{placeOf}
+use Rattle.theory.specs.Push.{push}
+use Rattle.theory.specs.Rewrite.{rewriteNumber, rewritePushes}
+use Rattle.theory.specs.Rank.{digit, remaining, rank}
+use Rattle.permutation.specs.Records.{onceEach, allZero, faultOf}
+use Rattle.charge.specs.Answers.{counted, readNumber}
+use Rattle.rewriting.specs.Answers.{rewriteFault, rewriteReason, rewritten, rewriteLevels}
+use Rattle.symbols.specs.Answers.{stored, storeLevels, storeReason, prefixReason}
+use Rattle.sheet.proofs.Claims.{sheets}
+use Rattle.text.specs.Text.{textOf, line, places, decimal, commandLine, commandLines, groupLine, groupLines}
+use Rattle.text.specs.Claims.{Texts}
+use Rattle.work.specs.Work.{answers, groupsAfterAll}
+
+pub texts : Texts
+unfolding
+    textOf line places decimal commandLine commandLines groupLine groupLines answers groupsAfterAll
+    counted callNumber callPushes callLevels countUp nextCell pushLevel insertByLevel sortByLevel permutationOf successor smaller placeOf
+    rewritten rewriteLevels rewriteReason rewriteFault rewriteNumber rewritePushes readNumber faultOf onceEach allZero push
+    stored storeLevels storeReason prefixReason digit remaining rank delta
+texts = record { example = ap textOf (sheets .example); decided = λ s. ap textOf (sheets .decided s) }

@@ -1,0 +1,57 @@
+-- `text::bench::bench` meets its contract: the text is laid out on a page, and copied where it fits. Assumes nothing.
+use mathlib.Core.Path.{refl, sym}
+use native.Mathlib.Omega.{arith}
+use borrow.Author.Needs.{needs}
+use Rattle.text.proofs.Printing.{laid-taken, too-short, long-enough, counted}
+use Rattle.text.proofs.bench.bench.Statement.{statement}
+use Rattle.text.proofs.bench.bench.Tie as tie
+
+text-buffer-requires : tie.Need-text-buffer-requires
+text-buffer-requires c κs = search needs
+
+slice-aggregate-lay : tie.Need-slice-aggregate-lay
+slice-aggregate-lay c = search needs
+
+lay-requires : tie.Need-lay-requires
+lay-requires c κs = search needs
+
+returns : tie.Need-returns
+returns c =
+    let lay = c .before .before .lay .ensures in
+    let text = c .before .before .before .before .before .before .before .args .text .now in
+    let short = too-short (lay .0) text (omega arith) in
+    (short .0, (short .1, (λ room. absurd (omega arith), (omega arith, refl))))
+
+array-share-prefix-page : tie.Need-array-share-prefix-page
+array-share-prefix-page c = search needs
+
+slice-aggregate-copy : tie.Need-slice-aggregate-copy
+slice-aggregate-copy c = sym (laid-taken (c .before .before .before .lay .ensures .0))
+
+copy-requires : tie.Need-copy-requires
+copy-requires c κs = omega (arith, laid-taken (c .before .before .before .before .lay .ensures .0))
+
+same-length : tie.Need-same-length
+same-length c = search needs
+
+returns-2 : tie.Need-returns-2
+returns-2 c =
+    let lay = c .before .before .before .before .before .before .before .lay .ensures in
+    let text = c .before .before .before .before .before .before .before .before .before .before .before .before .args .text .now in
+    let copied = c .before .before .copy .ensures .1 in
+    let fits = long-enough (lay .0) text (omega arith) copied in
+    (fits .0, (fits .1, (λ room. refl, counted (lay .0) text (omega arith) copied)))
+
+pub bench-spec : {M : Type 1} → statement M
+bench-spec =
+    tie.close
+    (tie.spec
+    text-buffer-requires
+    slice-aggregate-lay
+    lay-requires
+    returns
+    array-share-prefix-page
+    slice-aggregate-copy
+    copy-requires
+    same-length
+    returns-2)

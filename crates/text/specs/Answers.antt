@@ -1,0 +1,21 @@
+-- What `bench` answers, and the buffer that it leaves, for all inputs. Assumes nothing.
+use mathlib.Core.Bool.{cond}
+use mathlib.Core.List.{List, _++_}
+use Prim.Native.Nat.{ℕ}
+use lib.Dec.{leb}
+use lib.ListN.{length, drop}
+use Rattle.theory.specs.Reasons.{done, fit}
+use Rattle.permutation.specs.Answers.{given}
+use Rattle.text.specs.declared.answers.Printed.{Printed}
+
+-- a buffer that is shorter than the text is fit
+abbrev pub printNumber : List ℕ → ℕ → ℕ
+printNumber text size = cond (leb (length text) size) done fit
+
+-- the text's length; refused, "0 for every other number"
+unfoldable pub printed : List ℕ → ℕ → Printed
+printed text size = record { number = printNumber text size; length = given (printNumber text size) (length text) 0 }
+
+-- the text at the buffer's start, and past it what stood there before; refused, "no change in any lent list"
+unfoldable pub printedOn : List ℕ → List ℕ → List ℕ
+printedOn text buffer = given (printNumber text (length buffer)) (text ++ drop (length text) buffer) buffer

@@ -1,0 +1,25 @@
+-- What holds of every text, and document 01's sheet. Assumes nothing.
+use mathlib.Core.Path.{_≡_}
+use mathlib.Core.List.{List, [], _∷_, _++_}
+use Prim.Native.Nat.{ℕ, _+_}
+use lib.ListN.{take}
+use Rattle.sheet.specs.Sheet.{sheet}
+use Rattle.sheet.specs.Claims.{longestSheet, exampleSheet}
+use Rattle.text.specs.Text.{textOf}
+
+-- no text is longer, as `bench` says: 22 bytes for each of 1,000 commands and 146 for each of 64 groups
+abbrev pub textBound : ℕ
+textBound = 31344
+
+-- "Output, whole": c 1 0 4; c 2 0 1; c 3 5 0; g 0 5 7 6 8
+abbrev pub exampleText : List ℕ
+exampleText =
+    (99 ∷ 32 ∷ 49 ∷ 32 ∷ 48 ∷ 32 ∷ 52 ∷ 10 ∷ [])
+    ++ (99 ∷ 32 ∷ 50 ∷ 32 ∷ 48 ∷ 32 ∷ 49 ∷ 10 ∷ [])
+    ++ (99 ∷ 32 ∷ 51 ∷ 32 ∷ 53 ∷ 32 ∷ 48 ∷ 10 ∷ [])
+    ++ (103 ∷ 32 ∷ 48 ∷ 32 ∷ 53 ∷ 32 ∷ 55 ∷ 32 ∷ 54 ∷ 32 ∷ 56 ∷ 10 ∷ [])
+
+pub record Texts : Type 0 where
+  pub example : textOf (sheet exampleSheet) ≡ exampleText
+  -- a sheet longer than the longest is faulty whatever follows: its first bytes have the same text
+  pub decided : (s : List ℕ) → textOf (sheet (take (longestSheet + 1) s)) ≡ textOf (sheet s)

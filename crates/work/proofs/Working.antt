@@ -1,0 +1,195 @@
+-- Working through a sheet in memory: groups in their row, and what the commands so far answered and left. Assumes nothing.
+use mathlib.Core.Path.{_≡_, refl, sym, ap, _∙_}
+use mathlib.Core.List.{List, [], _∷_, _++_, map}
+use Prim.Native.Nat.{ℕ, suc, _+_, _-_, _≤_, _<_}
+use native.Mathlib.Numerals.{add-one}
+use native.Mathlib.Omega.{arith}
+use lib.ListN.{length, getD, take, drop, set, replicate, length-set, length-map}
+use lib.Seq.{length-take-le, take-all, take-suc, drop-append-seam, getD-take, set-append-left, getD-set-same, getD-set-other}
+use Rattle.theory.specs.Lists.{padded}
+use Rattle.theory.proofs.Cases.{by-name}
+use Rattle.theory.proofs.Padding.{getD-any, map-set, padded-none, padded-snoc}
+use Rattle.permutation.specs.declared.answers.Permutation.{Permutation}
+use Rattle.charge.specs.Answers.{readNumber}
+use Rattle.charge.specs.declared.answers.Pushes.{Pushes}
+use Rattle.charge.proofs.Numbers.{readable}
+use Rattle.sheet.specs.Sheet.{Contents}
+use Rattle.sheet.specs.Claims.{Each, Valid}
+use Rattle.sheet.specs.Held.{groupOf, groupsOf, noEntry, heldOf, levelsOf, groupsIn, contentsOf}
+use Rattle.sheet.specs.Standing.{GroupHeld, GroupsHeld, SheetHeld}
+use Rattle.sheet.proofs.InMemory.{group-levels, groups-back, groups-at, groups-held, held-count, held-at}
+use Rattle.sheet.specs.declared.held.Action.{Action}
+use Rattle.sheet.specs.declared.held.Group.{Group}
+use Rattle.sheet.specs.declared.held.Groups.{Groups}
+use Rattle.sheet.specs.declared.held.Entry.{Entry}
+use Rattle.sheet.specs.declared.held.Sheet.{Sheet}
+use Rattle.work.specs.Work.{jobLevels, levelsFor, answerTo, groupsAfter, answers, groupsAfterAll, rankOf}
+use Rattle.work.specs.Answers.{noAnswer, outcomeOf}
+use Rattle.work.specs.Acting.{acted}
+use Rattle.work.specs.declared.acting.Acted.{Acted}
+use Rattle.work.specs.declared.answers.Outcome.{Outcome}
+use Rattle.work.proofs.Jobs.{job-length, job-readable}
+
+-- ---- a group
+
+group-held : (L : List ℕ) → readNumber L ≡ 0 → GroupHeld (groupOf L)
+group-held L h = let back = group-levels L in record { held = ap groupOf (sym back); readable = rw back h }
+
+module _ {g : Group} (h : GroupHeld g) where
+  pub group-size : g .n ≡ length (levelsOf g)
+  group-size = ap (λ (x : Group). x .n) (h .held)
+
+  pub group-few : g .n ≤ 20
+  group-few = rw group-size (readable (h .readable) .many)
+
+  -- the levels that a job leaves, at the row's front
+  pub group-after : (a : Action) (target : Permutation) {L : List ℕ} → L ≡ jobLevels a target (levelsOf g)
+      → _≡_ {A = Group} (record { n = g .n; levels = L ++ drop (g .n) (g .levels) }) (groupOf (jobLevels a target (levelsOf g)))
+  group-after a target e =
+      let size : g .n ≡ length (jobLevels a target (levelsOf g)) = group-size ∙ sym (job-length a target (levelsOf g)) in
+      let rest : drop (g .n) (g .levels) ≡ replicate (20 - g .n) 0 =
+      ap (λ (x : Group). drop (x .n) (x .levels)) (h .held) ∙ drop-append-seam (levelsOf g) _ ∙ rw (← group-size) in
+      rw (e, rest) (ap (λ (n : ℕ). record { n = n; levels = jobLevels a target (levelsOf g) ++ replicate (20 - n) 0 }) size)
+
+-- ---- groups in their row
+
+groups-set : (Ls : List (List ℕ)) (g : ℕ) → g < length Ls → (L : List ℕ)
+    → _≡_ {A = Groups} (record { count = length Ls; list = set (groupsOf Ls .list) g (groupOf L) }) (groupsOf (set Ls g L))
+groups-set Ls g h L =
+    let there : g < length (map groupOf Ls) = omega (arith, length-map Ls groupOf) in
+    let same : length (map groupOf (set Ls g L)) ≡ length (map groupOf Ls) =
+    length-map (set Ls g L) groupOf ∙ length-set Ls g L ∙ sym (length-map Ls groupOf) in
+    rw (length-set Ls g L, set-append-left (map groupOf Ls) _ g (groupOf L) there, map-set groupOf Ls g L, same)
+
+pub group-at-held : {groups : Groups} → GroupsHeld groups → (g : ℕ) → g < groups .count → (d : Group) → GroupHeld (getD (groups .list) g d)
+group-at-held h g below d = rw (held-at h g below d) (group-held _ (h .readable g (omega (arith, held-count h))))
+
+-- ---- a row of commands
+
+module _ (e : Entry) where
+  -- one command more
+  answers-snoc : (Ls : List (List ℕ)) (es : List Entry) → answers Ls (es ++ e ∷ []) ≡ answers Ls es ++ answerTo (groupsAfterAll Ls es) e ∷ []
+  unfolding answers groupsAfterAll
+  answers-snoc Ls [] = refl
+  answers-snoc Ls (f ∷ es) = ap (λ (r : List Pushes). answerTo Ls f ∷ r) (answers-snoc (groupsAfter Ls f) es)
+
+  groupsAfterAll-snoc : (Ls : List (List ℕ)) (es : List Entry) → groupsAfterAll Ls (es ++ e ∷ []) ≡ groupsAfter (groupsAfterAll Ls es) e
+  unfolding groupsAfterAll
+  groupsAfterAll-snoc Ls [] = refl
+  groupsAfterAll-snoc Ls (f ∷ es) = groupsAfterAll-snoc (groupsAfter Ls f) es
+
+  after-each : (Ls : List (List ℕ)) → Each Ls → Each (groupsAfter Ls e)
+  after-each Ls each g h =
+      let at : ℕ = e .command .group in
+      let left : List ℕ = jobLevels (e .command .action) (e .target) (levelsFor Ls e) in
+      let inside : g < length Ls = omega (arith, length-set Ls at left) in
+      by-name g at
+      (λ q t.
+      let there : at < length Ls = omega arith in
+      rw (q, getD-set-same Ls at left [] there) (job-readable (e .command .action) (e .target) (levelsFor Ls e) (each at there)))
+      (λ ne t. rw (getD-set-other Ls at g left [] ne) (each g inside))
+
+pub answers-length : (Ls : List (List ℕ)) (es : List Entry) → length (answers Ls es) ≡ length es
+unfolding answers
+answers-length Ls [] = refl
+answers-length Ls (e ∷ es) = ap suc (answers-length (groupsAfter Ls e) es)
+
+groupsAfterAll-length : (Ls : List (List ℕ)) (es : List Entry) → length (groupsAfterAll Ls es) ≡ length Ls
+unfolding groupsAfterAll
+groupsAfterAll-length Ls [] = refl
+groupsAfterAll-length Ls (e ∷ es) = groupsAfterAll-length (groupsAfter Ls e) es ∙ length-set Ls (e .command .group) _
+
+groupsAfterAll-each : (Ls : List (List ℕ)) (es : List Entry) → Each Ls → Each (groupsAfterAll Ls es)
+unfolding groupsAfterAll
+groupsAfterAll-each Ls [] each = each
+groupsAfterAll-each Ls (e ∷ es) each = groupsAfterAll-each (groupsAfter Ls e) es (after-each e Ls each)
+
+-- whatever commands of a sheet without fault are done, the groups that they leave each have a permutation
+pub groupsAfterAll-held : (c : Contents) (es : List Entry) → Valid c → GroupsHeld (groupsOf (groupsAfterAll (c .groups) es))
+groupsAfterAll-held c es v =
+    groups-held (groupsAfterAll (c .groups) es) (omega (arith, v .few, groupsAfterAll-length (c .groups) es)) (groupsAfterAll-each (c .groups) es (v .readable))
+
+-- ---- the loop over the commands of a sheet
+
+abbrev doneOf : Sheet → ℕ → List Entry
+doneOf sheet i = take i (contentsOf sheet .entries)
+
+-- after i commands
+pub record Progress (sheet : Sheet) (said : List Pushes) (groups : Groups) (i : ℕ) : Type 0 where
+  pub within : i ≤ sheet .count
+  pub most : sheet .count ≤ 1000
+  pub answered : said ≡ padded 1000 noAnswer (answers (contentsOf sheet .groups) (doneOf sheet i))
+  pub left : groups ≡ groupsOf (groupsAfterAll (contentsOf sheet .groups) (doneOf sheet i))
+
+module _ {sheet : Sheet} (h : SheetHeld sheet) where
+  sheet-count : sheet .count ≡ length (contentsOf sheet .entries)
+  unfolding heldOf
+  sheet-count = ap (λ (s : Sheet). s .count) (h .held)
+
+  pub start : Progress sheet (replicate 1000 noAnswer) (sheet .groups) 0
+  unfolding heldOf answers groupsAfterAll
+  start = record {
+    within = omega arith;
+    most = omega (arith, sheet-count, h .valid .short);
+    answered = sym (padded-none 1000 noAnswer);
+    left = ap (λ (s : Sheet). s .groups) (h .held);
+  }
+
+  module _ {said : List Pushes} {groups : Groups} {i : ℕ} (v : Progress sheet said groups i) where
+    pub progress-held : GroupsHeld groups
+    progress-held = rw (v .left) (groupsAfterAll-held (contentsOf sheet) (doneOf sheet i) (h .valid))
+
+    module _ (more : i < sheet .count) (d : Entry) where
+      abbrev next : Entry
+      next = getD (sheet .entries) i d
+
+      there : i < length (contentsOf sheet .entries)
+      there = omega (arith, sheet-count)
+
+      next-is : getD (contentsOf sheet .entries) i d ≡ next
+      next-is = getD-take (sheet .count) (sheet .entries) i d more
+
+      -- its group is at an index of the row
+      module _ {g : ℕ} (is : g ≡ next .command .group) where
+        pub index-below : (g < groups .count) × (groups .count ≤ 64)
+        index-below =
+            let named = h .valid .named i there in
+            let same : getD (contentsOf sheet .entries) i noEntry ≡ next = getD-any (contentsOf sheet .entries) i noEntry d there ∙ next-is in
+            let count : groups .count ≡ length (contentsOf sheet .groups) =
+            ap (λ (x : Groups). x .count) (v .left) ∙ groupsAfterAll-length (contentsOf sheet .groups) (doneOf sheet i) in
+            rw (count, is) (rw same at named, h .valid .few)
+
+        pub step : (z : Group) {r : Acted} → r ≡ acted (next .command .action) (next .target) (levelsOf (getD (groups .list) g z))
+            → Progress sheet (set said i (r .answer)) (record { count = groups .count; list = set (groups .list) g (r .group) }) (i + 1)
+        step z {r} e =
+            let Gs : List (List ℕ) = contentsOf sheet .groups in
+            let es : List Entry = contentsOf sheet .entries in
+            let Ls : List (List ℕ) = groupsAfterAll Gs (take i es) in
+            let inside : g < length Ls = omega (arith, index-below .0, ap (λ (x : Groups). x .count) (v .left)) in
+            let levels : levelsOf (getD (groups .list) g z) ≡ levelsFor Ls next =
+            ap (λ (x : Groups). levelsOf (getD (x .list) g z)) (v .left)
+            ∙ ap levelsOf (groups-at Ls g inside z)
+            ∙ group-levels (getD Ls g [])
+            ∙ ap (λ (k : ℕ). getD Ls k []) is in
+            let did : r ≡ acted (next .command .action) (next .target) (levelsFor Ls next) = e ∙ rw levels in
+            let more-done : take (i + 1) es ≡ take i es ++ next ∷ [] = rw (add-one, take-suc es i d there, next-is) in
+            let long : length (answers Gs (take i es)) ≡ i = answers-length Gs (take i es) ∙ length-take-le i es (omega (arith, there)) in
+            record {
+              within = omega arith;
+              most = v .most;
+              answered = rw (more-done, answers-snoc next Gs (take i es), did, v .answered)
+                  (padded-snoc 1000 noAnswer i (answers Gs (take i es)) (answerTo Ls next) long (omega (arith, v .most)));
+              left = rw (more-done, groupsAfterAll-snoc next Gs (take i es), did, v .left, ← is) (groups-set Ls g inside _);
+            }
+
+    pub end : {ranks : List ℕ} → sheet .count ≤ i → ranks ≡ padded 64 0 (map rankOf (groupsIn groups))
+        → _≡_ {A = Outcome} (record { count = sheet .count; answers = said; groups = groups; ranks = ranks }) (outcomeOf (contentsOf sheet))
+    unfolding outcomeOf
+    end {ranks} all e =
+        let es : List Entry = contentsOf sheet .entries in
+        let Ls : List (List ℕ) = groupsAfterAll (contentsOf sheet .groups) es in
+        let whole : take i es ≡ es = take-all i es (omega (arith, sheet-count)) in
+        let answers-are : said ≡ padded 1000 noAnswer (answers (contentsOf sheet .groups) es) = rw whole at (v .answered) in
+        let groups-are : groups ≡ groupsOf Ls = rw whole at (v .left) in
+        let ranks-are : ranks ≡ padded 64 0 (map rankOf Ls) = e ∙ rw (groups-are, groups-back Ls) in
+        λ k. record { count = sheet-count k; answers = answers-are k; groups = groups-are k; ranks = ranks-are k }

@@ -1,0 +1,65 @@
+-- `work::acting::act` meets its contract: each job by its own contract. Assumes nothing.
+use borrow.Author.Needs.{needs}
+use Rattle.work.proofs.acting.act.Statement.{statement}
+use Rattle.work.proofs.acting.act.Tie as tie
+
+enum-known-action : tie.Need-enum-known-action
+enum-known-action c = search needs
+
+count-up-requires : tie.Need-count-up-requires
+count-up-requires c κs = search needs
+
+enum-told : tie.Need-enum-told
+enum-told c = search needs
+
+slice-aggregate-rewrite : tie.Need-slice-aggregate-rewrite
+slice-aggregate-rewrite c = search needs
+
+rewrite-requires : tie.Need-rewrite-requires
+rewrite-requires c κs = search needs
+
+enum-known-action-2 : tie.Need-enum-known-action-2
+enum-known-action-2 c = search needs
+
+store-requires : tie.Need-store-requires
+store-requires c κs = search needs
+
+same-length : tie.Need-same-length
+same-length c = search needs
+
+returns : tie.Need-returns
+returns c = rw (c .before .before .before .before .before .action .given .1) (c .before .before .count-up .ensures)
+
+same-length-2 : tie.Need-same-length-2
+same-length-2 c = search needs
+
+returns-2 : tie.Need-returns-2
+returns-2 c =
+    let left = c .before .before .before .rewrite .ensures in
+    rw (c .before .before .before .before .before .before .enum-told .given .1) (left .0, left .1 .0)
+
+same-length-3 : tie.Need-same-length-3
+same-length-3 c = search needs
+
+returns-3 : tie.Need-returns-3
+returns-3 c =
+    let left = c .before .before .store .ensures in
+    rw (c .before .before .before .before .before .action2 .given .1) (left .0, left .1 .0)
+
+pub act-spec : {M : Type 1} → statement M
+act-spec =
+    tie.close
+    (tie.spec
+    enum-known-action
+    count-up-requires
+    enum-told
+    slice-aggregate-rewrite
+    rewrite-requires
+    enum-known-action-2
+    store-requires
+    same-length
+    returns
+    same-length-2
+    returns-2
+    same-length-3
+    returns-3)

@@ -1,0 +1,28 @@
+-- The outcome of a sheet in memory, and what `work_sheet` answers for all inputs. Assumes nothing.
+use lib.ListN.{length}
+use Rattle.charge.specs.declared.answers.Pushes.{Pushes}
+use Rattle.sheet.specs.Bytes.{Got, fault, got, numberOf}
+use Rattle.sheet.specs.Sheet.{Contents}
+use Rattle.theory.specs.Lists.{padded}
+use Rattle.sheet.specs.Held.{groupsOf, noContents}
+use Rattle.work.specs.Work.{answersOf, groupsLeft, ranksLeft}
+use Rattle.work.specs.declared.answers.Outcome.{Outcome}
+use Rattle.work.specs.declared.answers.Worked.{Worked}
+
+-- what stands past the last answer
+abbrev pub noAnswer : Pushes
+noAnswer = record { number = 0; pushes = 0 }
+
+-- what working through a sheet gives, in rows filled from the front
+unfoldable pub outcomeOf : Contents → Outcome
+outcomeOf c = record {
+  count = length (c .entries);
+  answers = padded 1000 noAnswer (answersOf c);
+  groups = groupsOf (groupsLeft c);
+  ranks = padded 64 0 (ranksLeft c);
+}
+
+-- number 0 and the outcome, or the fault's number and zeros: "Only a sheet without fault starts work."
+unfoldable pub workedOf : Got Contents → Worked
+workedOf (fault f) = record { number = numberOf f; outcome = outcomeOf noContents }
+workedOf (got c end) = record { number = 0; outcome = outcomeOf c }

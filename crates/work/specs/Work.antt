@@ -1,0 +1,66 @@
+-- Working through a sheet: what each command answers, and the levels that are left. Assumes nothing.
+use mathlib.Core.List.{List, [], _∷_, map}
+use Prim.Native.Nat.{ℕ}
+use lib.ListN.{length, getD, set}
+use Rattle.theory.specs.Rank.{rank}
+use Rattle.theory.specs.Levels.{permutationOf}
+use Rattle.theory.specs.CountUp.{callLevels}
+use Rattle.permutation.specs.declared.answers.Permutation.{Permutation}
+use Rattle.charge.specs.Answers.{counted}
+use Rattle.charge.specs.declared.answers.Pushes.{Pushes}
+use Rattle.rewriting.specs.Answers.{rewritten, rewriteLevels}
+use Rattle.symbols.specs.Answers.{stored, storeLevels}
+use Rattle.sheet.specs.Sheet.{Contents}
+use Rattle.sheet.specs.declared.held.Action.{Action}
+use Rattle.sheet.specs.declared.held.Action.the-variants.{Count, Rewrite, Store}
+use Rattle.sheet.specs.declared.held.Entry.{Entry}
+
+-- the bytes of the push list that a rewrite is lent here; a list of twenty is never too short
+abbrev pub room : ℕ
+room = 20
+
+-- what a command of each kind answers on levels: the job of that name in `charge` or `rewriting`
+abbrev pub jobAnswer : Action → Permutation → List ℕ → Pushes
+jobAnswer (Count k) target L = counted L k
+jobAnswer Rewrite target L = rewritten L target room
+jobAnswer (Store m symbol) target L = stored L m symbol
+
+-- the levels that it leaves
+abbrev pub jobLevels : Action → Permutation → List ℕ → List ℕ
+jobLevels (Count k) target L = callLevels k L
+jobLevels Rewrite target L = rewriteLevels L target room
+jobLevels (Store m symbol) target L = storeLevels L m symbol
+
+-- the levels of the group that a command names
+abbrev pub levelsFor : List (List ℕ) → Entry → List ℕ
+levelsFor groups e = getD groups (e .command .group) []
+
+-- "each command is done or sent back by itself": its answer, and all groups after it
+abbrev pub answerTo : List (List ℕ) → Entry → Pushes
+answerTo groups e = jobAnswer (e .command .action) (e .target) (levelsFor groups e)
+
+abbrev pub groupsAfter : List (List ℕ) → Entry → List (List ℕ)
+groupsAfter groups e = set groups (e .command .group) (jobLevels (e .command .action) (e .target) (levelsFor groups e))
+
+-- "and the next follows": the answers of a row of commands, and the groups that they leave
+unfoldable pub answers : List (List ℕ) → List Entry → List Pushes
+answers groups [] = []
+answers groups (e ∷ es) = answerTo groups e ∷ answers (groupsAfter groups e) es
+
+unfoldable pub groupsAfterAll : List (List ℕ) → List Entry → List (List ℕ)
+groupsAfterAll groups [] = groups
+groupsAfterAll groups (e ∷ es) = groupsAfterAll (groupsAfter groups e) es
+
+-- the rank of the permutation of a group's levels
+abbrev pub rankOf : List ℕ → ℕ
+rankOf L = rank (length L) (permutationOf L)
+
+-- what working through a sheet gives: a number and pushes for each command, levels and rank for each group
+abbrev pub answersOf : Contents → List Pushes
+answersOf c = answers (c .groups) (c .entries)
+
+abbrev pub groupsLeft : Contents → List (List ℕ)
+groupsLeft c = groupsAfterAll (c .groups) (c .entries)
+
+abbrev pub ranksLeft : Contents → List ℕ
+ranksLeft c = map rankOf (groupsLeft c)
