@@ -14,7 +14,7 @@ use Rattle.theory.proofs.Reading.{reading}
 use Rattle.permutation.proofs.PushedRows.{push-row}
 use Rattle.charge.specs.Counting.{Ready}
 use Rattle.charge.proofs.Sorting.{row-long, row-first}
-use Rattle.charge.proofs.Pushing.{StandsAt, stands-at, stands-push}
+use Rattle.charge.proofs.Pushing.{PlacedCell, placed-cell, placed-push}
 
 -- a count by k that began at the levels `first` and ends at the level `last`
 pub record Counting (first : List ℕ) (k last : ℕ) (L cells : List ℕ) (top : ℕ) : Type 0 where
@@ -50,10 +50,10 @@ module _ {first : List ℕ} {k last : ℕ} {L cells : List ℕ} {top : ℕ} (v :
     place-bounds = rw place-is (successor-bounds (length L) (permutationOf L) (v .ready .few))
 
     module _ {next : List ℕ} {c : ℕ} (pushed : next ≡ push place cells) (cell : c ≡ getD next 0 0) where
-      pub next-cell : StandsAt L place c
+      pub next-cell : PlacedCell L place c
       unfolding push
       next-cell =
-          stands-at L place (omega (arith, place-bounds .0)) (place-bounds .1) (v .ready .cells-are) (cell ∙ rw pushed)
+          placed-cell L place (omega (arith, place-bounds .0)) (place-bounds .1) (v .ready .cells-are) (cell ∙ rw pushed)
 
       pub step : top < last → Counting first k last (set L (c - 1) (top + 1)) next (top + 1)
       unfolding countUp nextCell
@@ -65,7 +65,7 @@ module _ {first : List ℕ} {k last : ℕ} {L cells : List ℕ} {top : ℕ} (v :
           let d-high : d ≤ length L = rw (b .is) at (b .high) in
           let r = reading L (v .ready .untied) in
           let more : last - top ≡ suc (last - (top + 1)) = omega arith in
-          rw (stands-push b (v .ready .top-is)) (record {
+          rw (placed-push b (v .ready .top-is)) (record {
             ready = record {
               few = omega (arith, v .ready .few, r .push-length d);
               many = omega (arith, v .ready .many, r .push-length d);

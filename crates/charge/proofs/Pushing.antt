@@ -11,20 +11,20 @@ use Rattle.theory.proofs.Members.{entry-inside}
 use Rattle.theory.proofs.Sorting.{permutationOf-permutation, permutationOf-length}
 
 -- c is the cell at place i
-pub record StandsAt (L : List ℕ) (i c : ℕ) : Type 0 where
+pub record PlacedCell (L : List ℕ) (i c : ℕ) : Type 0 where
   pub is : c ≡ cellAt i (permutationOf L)
   pub low : 1 ≤ c
   pub high : c ≤ length L
 
-pub stands-at : (L : List ℕ) (i : ℕ) {cells : List ℕ} {c : ℕ} → 1 ≤ i → i ≤ length L → cells ≡ row (permutationOf L) → c ≡ cellAt i cells
-    → StandsAt L i c
-stands-at L i {cells} {c} low high row-is e =
+pub placed-cell : (L : List ℕ) (i : ℕ) {cells : List ℕ} {c : ℕ} → 1 ≤ i → i ≤ length L → cells ≡ row (permutationOf L) → c ≡ cellAt i cells
+    → PlacedCell L i c
+placed-cell L i {cells} {c} low high row-is e =
     let size = permutationOf-length L in
     let is : c ≡ cellAt i (permutationOf L) =
     e ∙ ap (cellAt i) row-is ∙ row-at (permutationOf L) (i - 1) (omega arith) in
     let b = entry-inside (permutationOf-permutation L) (i - 1) (omega arith) in
     record { is = is; low = rw is (b .0); high = rw is (b .1) }
 
-pub stands-push : {L : List ℕ} {i c t : ℕ} → StandsAt L i c → t ≡ highest L → set L (c - 1) (t + 1) ≡ pushLevel (cellAt i (permutationOf L)) L
+pub placed-push : {L : List ℕ} {i c t : ℕ} → PlacedCell L i c → t ≡ highest L → set L (c - 1) (t + 1) ≡ pushLevel (cellAt i (permutationOf L)) L
 unfolding pushLevel
-stands-push s e = rw (s .is, e)
+placed-push s e = rw (s .is, e)

@@ -1,25 +1,29 @@
--- What the public functions answer, and the levels that they leave, for all inputs. Count up's are theory's `callNumber`, `callPushes` and `callLevels`.
+-- What the public functions answer, and the levels that they leave, for all inputs. Count up leaves theory's `callLevels`.
 -- Assumes nothing.
 use mathlib.Core.Bool.{cond, _&&_}
 use mathlib.Core.List.{List}
 use Prim.Native.Nat.{ℕ}
 use lib.Dec.{leb}
 use lib.ListN.{length}
-use Rattle.theory.specs.Reasons.{done, size, tie, value, sized}
+use Rattle.theory.specs.Reasons.{done, value}
 use Rattle.theory.specs.Permutation.{cellAt}
-use Rattle.theory.specs.Levels.{tied, permutationOf, pushLevel}
-use Rattle.theory.specs.CountUp.{ceilingOf, callNumber, callPushes}
-use Rattle.permutation.specs.Answers.{given, orElse, permuted}
+use Rattle.theory.specs.Levels.{readNumber, permutationOf, pushLevel}
+use Rattle.theory.specs.CountUp.{ceilingOf, callNumber}
+use Rattle.theory.specs.Refusal.{given, orElse}
+use Rattle.permutation.specs.Answers.{permuted}
 use Rattle.permutation.specs.declared.answers.Permuted.{Permuted}
 use Rattle.charge.specs.declared.answers.Pushes.{Pushes}
 
--- a job that pushes: how many pushes, or 0 where it is refused
+-- a job that pushes: refused, "0 for every other number"; done, how many pushes
+abbrev pub noPushes : ℕ → Pushes
+noPushes number = record { number = number; pushes = 0 }
+
+abbrev pub donePushes : ℕ → Pushes
+donePushes k = record { number = 0; pushes = k }
+
+-- the one or the other, by its number
 abbrev pub pushesOf : ℕ → ℕ → Pushes
 pushesOf number k = record { number = number; pushes = given number k 0 }
-
--- why the permutation of levels is not read: size, then tie
-unfoldable pub readNumber : List ℕ → ℕ
-readNumber L = cond (sized (length L)) (cond (tied L) tie done) size
 
 -- "The order lists the names from highest level to lowest."
 unfoldable pub reading : List ℕ → Permuted
@@ -27,7 +31,7 @@ reading L = permuted (readNumber L) (permutationOf L)
 
 -- a push at place i, 2 to n: size, tie, value, then ceiling
 unfoldable pub placeNumber : List ℕ → ℕ → ℕ
-placeNumber L i = orElse (readNumber L) (cond (leb 2 i && leb i (length L)) (ceilingOf L 1) value)
+placeNumber L i = orElse (readNumber L) (orElse (cond (leb 2 i && leb i (length L)) done value) (ceilingOf L 1))
 
 -- a push is one push
 unfoldable pub placePushes : List ℕ → ℕ → Pushes
@@ -39,4 +43,4 @@ placeLevels L i = given (placeNumber L i) (pushLevel (cellAt i (permutationOf L)
 
 -- "Count up, rewrite and store, when done, give their number of pushes: k, [..]"
 unfoldable pub counted : List ℕ → ℕ → Pushes
-counted L k = record { number = callNumber k L; pushes = callPushes k L }
+counted L k = pushesOf (callNumber k L) k

@@ -8,7 +8,7 @@ use Rattle.theory.specs.Reasons.{maxLevel}
 use Rattle.theory.specs.Permutation.{row}
 use Rattle.theory.specs.Levels.{highest, tied, permutationOf}
 use Rattle.theory.specs.CountUp.{callNumber}
-use Rattle.permutation.specs.Answers.{given}
+use Rattle.theory.specs.Refusal.{given}
 use Rattle.charge.specs.declared.judge.Call.{Call}
 
 -- the number of a call with k, and the highest level beside a 0

@@ -1,6 +1,23 @@
 // What a job that pushes on levels answers: a number first, 0 where it is done, and how many pushes it did.
+ghost use mathlib.Core.Path.{_≡_};
+ghost use Rattle.charge.specs.Answers.{noPushes, donePushes};
+
 #[repr(C)]
 pub struct Pushes {
     pub number: u8,
     pub pushes: u32,
+}
+
+// A refusal. For the jobs of other crates too.
+pub fn no_pushes(number: u8) -> Pushes
+    ensures { λ r. ⌜ r ≡ noPushes number ⌝ }
+{
+    Pushes { number, pushes: 0 }
+}
+
+// A job done. For the jobs of other crates too.
+pub fn done_pushes(pushes: u32) -> Pushes
+    ensures { λ r. ⌜ r ≡ donePushes pushes ⌝ }
+{
+    Pushes { number: 0, pushes }
 }

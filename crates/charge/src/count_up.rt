@@ -4,6 +4,8 @@ ghost use Rattle.theory.specs.CountUp as meaning;
 ghost use Rattle.charge.specs.Answers.{counted};
 ghost use Rattle.charge.specs.Counting.{Ready};
 use super::answers::Pushes;
+use super::answers::done_pushes;
+use super::answers::no_pushes;
 use super::judge::judge_call;
 use super::sort::sort_cells;
 use permutation::cell::wide;
@@ -34,14 +36,11 @@ pub fn count_up(levels: &mut [u16], k: u32) -> Pushes
     let call = judge_call(levels, k);
     let number = call.number;
     if number != 0 {
-        return Pushes { number, pushes: 0 };
+        return no_pushes(number);
     }
     let top = call.top;
     let mut cells = [0u8; 20];
     sort_cells(levels, &mut cells);
     count_steps(levels, &mut cells, top, k as u16);
-    Pushes {
-        number: 0,
-        pushes: k,
-    }
+    done_pushes(k)
 }

@@ -4,11 +4,10 @@ ghost use Prim.Native.Nat.{_≤_};
 ghost use lib.ListN.{length, drop};
 ghost use Rattle.theory.specs.Lists.{member};
 ghost use Rattle.theory.specs.Levels as meaning;
-ghost use Rattle.charge.specs.Answers.{readNumber};
 ghost use Rattle.charge.specs.Counting.{callJudged};
 use permutation::reasons::CEILING;
-use permutation::reasons::SIZE;
 use permutation::reasons::TIE;
+use permutation::reasons::size_of;
 
 // Is x a level at or after index `from`?
 fn stands_from(levels: &[u16], x: u16, from: usize) -> bool
@@ -41,13 +40,11 @@ pub fn tied(levels: &[u16]) -> bool
 
 // SIZE, TIE, or 0 for levels that have a permutation. For other crates too.
 pub fn fault(levels: &[u16]) -> u8
-    ensures { λ r. ⌜ r ≡ readNumber (now (levels .entry)) ⌝ }
+    ensures { λ r. ⌜ r ≡ meaning.readNumber (now (levels .entry)) ⌝ }
 {
-    if levels.len() < 2 {
-        return SIZE;
-    }
-    if 20 < levels.len() {
-        return SIZE;
+    let size = size_of(levels.len());
+    if size != 0 {
+        return size;
     }
     if tied(levels) {
         return TIE;

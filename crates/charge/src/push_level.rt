@@ -2,6 +2,8 @@
 ghost use mathlib.Core.Path.{_≡_};
 ghost use Rattle.charge.specs.Answers.{placePushes, placeLevels};
 use super::answers::Pushes;
+use super::answers::done_pushes;
+use super::answers::no_pushes;
 use super::judge::fault;
 use super::judge::highest;
 use super::sort::sort_cells;
@@ -15,33 +17,21 @@ pub fn push_level(levels: &mut [u16], place: usize) -> Pushes
 {
     let number = fault(levels);
     if number != 0 {
-        return Pushes { number, pushes: 0 };
+        return no_pushes(number);
     }
     if place < 2 {
-        return Pushes {
-            number: VALUE,
-            pushes: 0,
-        };
+        return no_pushes(VALUE);
     }
     if levels.len() < place {
-        return Pushes {
-            number: VALUE,
-            pushes: 0,
-        };
+        return no_pushes(VALUE);
     }
     let top = highest(levels);
     if top == 65535 {
-        return Pushes {
-            number: CEILING,
-            pushes: 0,
-        };
+        return no_pushes(CEILING);
     }
     let mut cells = [0u8; 20];
     sort_cells(levels, &mut cells);
     let cell = wide(cells[place - 1]);
     levels[cell - 1] = top + 1;
-    Pushes {
-        number: 0,
-        pushes: 1,
-    }
+    done_pushes(1)
 }

@@ -5,14 +5,14 @@ use super::judge::fault;
 use super::sort::sort_cells;
 use permutation::answers::Permutation;
 use permutation::answers::Permuted;
-use permutation::answers::refuse;
+use permutation::answers::no_permutation;
 
 pub fn read(levels: &[u16]) -> Permuted
     ensures { λ r. ⌜ r ≡ reading (now (levels .entry)) ⌝ }
 {
     let number = fault(levels);
     if number != 0 {
-        return refuse(number);
+        return no_permutation(number);
     }
     let mut cells = [0u8; 20];
     sort_cells(levels, &mut cells);

@@ -1,11 +1,12 @@
 -- The check of a record: what its ways out answer, and what its callers have of it. Assumes nothing.
 use mathlib.Core.Path.{_≡_, sym, ap, _∙_}
 use mathlib.Core.Bool.{true, and-true}
-use Prim.Native.Nat.{ℕ, _≤_}
-use borrow.Author.Tests.{ne-eqb, le-leb}
-use lib.ListN.{length, drop}
+use Prim.Native.Nat.{ℕ}
+use lib.ListN.{length, drop, replicate}
+use Rattle.theory.specs.Refusal.{sizeOf}
+use Rattle.theory.proofs.Refusal.{refused}
 use Rattle.permutation.specs.Records.{listOf, onceEach, allZero, faultOf}
-use Rattle.permutation.specs.Spots.{withoutSpots, spotted, checked, HasSpots}
+use Rattle.permutation.specs.Spots.{spotRow, withoutSpots, spotted, checked, HasSpots}
 use Rattle.permutation.specs.declared.answers.Permutation.{Permutation}
 use Rattle.permutation.specs.declared.validity.Checked.{Checked}
 use Rattle.permutation.proofs.Records.{Sound, sound}
@@ -15,13 +16,12 @@ use Rattle.permutation.proofs.Spots.{row-has-spots}
 module _ (p : Permutation) where
   pub check-refused : {number : ℕ} → number ≡ faultOf p → (number ≡ 0 → ⊥) → withoutSpots number ≡ checked p
   unfolding checked
-  check-refused e ne = rw (← e, ne-eqb _ 0 ne)
+  check-refused e ne = refused (λ number spots. record { number = number; spots = spots }) (spotRow (listOf p)) (replicate 21 0) e ne
 
   -- n is in its range, and nothing stands past n: the pass over the names decides
-  pub check-names : 2 ≤ p .n → p .n ≤ 20 → allZero (drop (p .n) (p .cells)) ≡ true → spotted (p .n) (listOf p) ≡ checked p
+  pub check-names : sizeOf (p .n) ≡ 0 → allZero (drop (p .n) (p .cells)) ≡ true → spotted (p .n) (listOf p) ≡ checked p
   unfolding spotted checked faultOf
-  check-names low high zeros =
-      rw (le-leb 2 (p .n) low, le-leb (p .n) 20 high, zeros, and-true (onceEach (p .n) (listOf p)))
+  check-names sized zeros = rw (sized, zeros, and-true (onceEach (p .n) (listOf p)))
 
 -- ---- what it answered
 module _ (p : Permutation) {r : Checked} (e : r ≡ checked p) where

@@ -1,17 +1,19 @@
 -- When a record is refused, and what one has that is not: it is the record of a permutation. Assumes nothing.
 use mathlib.Core.Path.{_≡_, refl, ap, sym, _∙_}
-use mathlib.Core.Bool.{Bool, true, false, cond, _&&_, and-false, and-eq-true-iff}
+use mathlib.Core.Bool.{true, false, cond, _&&_, and-eq-true-iff}
 use mathlib.Core.List.{List, [], _∷_, _++_}
 use Prim.Native.Nat.{ℕ, zero, suc, _-_, _≤_, _<_}
 use native.Mathlib.Omega.{arith}
-use borrow.Author.Tests.{eqb-true, eq-eqb, leb-true, le-leb, lt-leb}
-use lib.Dec.{eqb, leb}
+use borrow.Author.Tests.{eqb-true, eq-eqb}
+use lib.Dec.{eqb}
 use lib.ListN.{length, drop, replicate, length-drop, take-append-drop}
 use lib.Seq.{length-take-le, take-append-seam, drop-append-seam}
-use Rattle.theory.specs.Reasons.{done, size, muddle, sized}
+use Rattle.theory.specs.Reasons.{done, muddle}
+use Rattle.theory.specs.Refusal.{sizeOf}
 use Rattle.theory.specs.Lists.{count}
 use Rattle.theory.specs.Permutation.{IsPermutation, row}
 use Rattle.theory.proofs.Cases.{by-name}
+use Rattle.theory.proofs.Refusal.{orElse-refused, orElse-done, tested, size-done, size-range}
 use Rattle.permutation.specs.Records.{listOf, recordOf, onceEach, allZero, faultOf}
 use Rattle.permutation.specs.declared.answers.Permutation.{Permutation}
 
@@ -54,22 +56,18 @@ all-zeros (x ∷ xs) h =
 
 -- ---- why a record is refused, by the tests that tell
 module _ (p : Permutation) where
-  pub fault-small : p .n < 2 → size ≡ faultOf p
+  pub fault-size : {number : ℕ} → number ≡ sizeOf (p .n) → (number ≡ 0 → ⊥) → number ≡ faultOf p
   unfolding faultOf
-  fault-small h = rw (lt-leb 2 (p .n) h)
+  fault-size e ne = orElse-refused (sizeOf (p .n)) _ e ne
 
-  pub fault-large : 20 < p .n → size ≡ faultOf p
-  unfolding faultOf
-  fault-large h = rw (lt-leb (p .n) 20 h, and-false (leb 2 (p .n)))
-
-  module _ (low : 2 ≤ p .n) (high : p .n ≤ 20) where
+  module _ (sized : sizeOf (p .n) ≡ 0) where
     pub fault-muddle : (onceEach (p .n) (listOf p) && allZero (drop (p .n) (p .cells))) ≡ false → muddle ≡ faultOf p
     unfolding faultOf
-    fault-muddle e = rw (le-leb 2 (p .n) low, le-leb (p .n) 20 high, e)
+    fault-muddle e = rw (sized, e)
 
     fault-none : (onceEach (p .n) (listOf p) && allZero (drop (p .n) (p .cells))) ≡ true → done ≡ faultOf p
     unfolding faultOf
-    fault-none e = rw (le-leb 2 (p .n) low, le-leb (p .n) 20 high, e)
+    fault-none e = rw (sized, e)
 
 -- what a record has that is not refused
 pub record Sound (p : Permutation) : Type 0 where
@@ -79,11 +77,6 @@ pub record Sound (p : Permutation) : Type 0 where
   pub permutation : IsPermutation (p .n) (listOf p)
   pub is : p ≡ recordOf (listOf p)
 
-no-fault : (a b : Bool) → cond a (cond b done muddle) size ≡ 0 → (a ≡ true) × (b ≡ true)
-no-fault true true h = (refl, refl)
-no-fault true false h = absurd (omega arith)
-no-fault false b h = absurd (omega arith)
-
 abbrev made : ℕ → List ℕ → Permutation
 made k l = record { n = k; cells = l }
 
@@ -92,16 +85,16 @@ unfolding faultOf
 sound p long h =
     let n : ℕ = p .n in
     let rest : List ℕ = drop n (p .cells) in
-    let f = no-fault (sized n) (onceEach n (listOf p) && allZero rest) h in
-    let s = and-eq-true-iff (leb 2 n) (leb n 20) .0 (f .0) in
-    let g = and-eq-true-iff (onceEach n (listOf p)) (allZero rest) .0 (f .1) in
-    let high : n ≤ 20 = leb-true n 20 (s .1) in
+    let f = orElse-done (sizeOf n) (cond (onceEach n (listOf p) && allZero rest) done muddle) h in
+    let s = size-range n (f .0) in
+    let g = and-eq-true-iff (onceEach n (listOf p)) (allZero rest) .0 (tested (onceEach n (listOf p) && allZero rest) (λ z. omega arith) (f .1)) in
+    let high : n ≤ 20 = s .1 in
     let names : length (listOf p) ≡ n = length-take-le n (p .cells) (omega arith) in
     let left : length rest ≡ 20 - length (listOf p) = omega (arith, length-drop n (p .cells)) in
     let cells : p .cells ≡ row (listOf p) =
     sym (take-append-drop n (p .cells)) ∙ ap (λ (l : List ℕ). listOf p ++ l) (all-zeros rest (g .1) ∙ rw left) in
     record {
-      few = leb-true 2 n (s .0);
+      few = s .0;
       many = high;
       fault = h;
       permutation = once-permutation n (listOf p) names (g .0);
@@ -113,5 +106,5 @@ pub fault-record : (n : ℕ) (xs : List ℕ) → 2 ≤ n → n ≤ 20 → IsPerm
 fault-record n xs low high o =
     let rest : List ℕ = replicate (20 - length xs) 0 in
     let once : onceEach (length xs) xs ≡ true = rw (o .long) (permutation-once n xs o) in
-    sym (fault-none (recordOf xs) (omega arith) (omega arith)
+    sym (fault-none (recordOf xs) (size-done (length xs) (omega arith) (omega arith))
     (rw (take-append-seam xs rest, drop-append-seam xs rest, once) (zeros-all (20 - length xs))))

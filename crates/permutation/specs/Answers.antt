@@ -3,8 +3,9 @@
 use mathlib.Core.Bool.{cond, _&&_}
 use mathlib.Core.List.{List, []}
 use Prim.Native.Nat.{ℕ}
-use lib.Dec.{eqb, leb}
+use lib.Dec.{leb}
 use Rattle.theory.specs.Reasons.{done, value}
+use Rattle.theory.specs.Refusal.{given, orElse}
 use Rattle.theory.specs.Push.{push}
 use Rattle.theory.specs.Successor.{successor}
 use Rattle.permutation.specs.Records.{listOf, recordOf, faultOf}
@@ -12,20 +13,12 @@ use Rattle.permutation.specs.declared.answers.Permutation.{Permutation}
 use Rattle.permutation.specs.declared.answers.Permuted.{Permuted}
 use Rattle.permutation.specs.declared.answers.Placed.{Placed}
 
--- a where the number says done, and otherwise z: zeros, or what stood there before
-abbrev pub given {ℓ} : {A : Type ℓ} → ℕ → A → A → A
-given number a z = cond (eqb number done) a z
-
--- "Where several hold, the lowest number is given": this one unless it is done, and then the next
-abbrev pub orElse : ℕ → ℕ → ℕ
-orElse number next = given number next number
-
 -- a job that gives a permutation: its record, or that of no cells, which is all zeros
 abbrev pub permuted : ℕ → List ℕ → Permuted
 permuted number xs = record { number = number; permutation = recordOf (given number xs []) }
 
-abbrev pub refused : ℕ → Permuted
-refused number = record { number = number; permutation = recordOf [] }
+abbrev pub noPermutation : ℕ → Permuted
+noPermutation number = record { number = number; permutation = recordOf [] }
 
 -- "push place outside 2 to n" is value; size and muddle come first
 unfoldable pub pushNumber : Permutation → ℕ → ℕ

@@ -4,7 +4,8 @@ use mathlib.Core.List.{List, [], _∷_}
 use Prim.Native.Nat.{ℕ, zero, suc}
 use lib.Dec.{eqb}
 use lib.ListN.{length, take, drop}
-use Rattle.theory.specs.Reasons.{done, size, muddle, sized}
+use Rattle.theory.specs.Reasons.{done, muddle}
+use Rattle.theory.specs.Refusal.{orElse, sizeOf}
 use Rattle.theory.specs.Lists.{count}
 use Rattle.theory.specs.Permutation.{row}
 use Rattle.permutation.specs.declared.answers.Permutation.{Permutation}
@@ -29,4 +30,4 @@ allZero (x ∷ xs) = eqb x 0 && allZero xs
 
 -- why a job on a record is refused: size, then muddle, "an order record is not as described above"
 unfoldable pub faultOf : Permutation → ℕ
-faultOf p = cond (sized (p .n)) (cond (onceEach (p .n) (listOf p) && allZero (drop (p .n) (p .cells))) done muddle) size
+faultOf p = orElse (sizeOf (p .n)) (cond (onceEach (p .n) (listOf p) && allZero (drop (p .n) (p .cells))) done muddle)

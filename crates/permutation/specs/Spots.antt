@@ -8,7 +8,7 @@ use lib.ListN.{getD, replicate}
 use Rattle.theory.specs.Reasons.{done, muddle}
 use Rattle.theory.specs.Lists.{member, namesFrom}
 use Rattle.permutation.specs.Records.{listOf, onceEach, faultOf}
-use Rattle.permutation.specs.Answers.{given}
+use Rattle.theory.specs.Refusal.{given}
 use Rattle.permutation.specs.declared.answers.Permutation.{Permutation}
 use Rattle.permutation.specs.declared.validity.Checked.{Checked}
 

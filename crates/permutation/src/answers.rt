@@ -1,6 +1,6 @@
 // The record of a permutation, and what the jobs on permutations answer: a number first, 0 where the job is done.
 ghost use mathlib.Core.Path.{_≡_};
-ghost use Rattle.permutation.specs.Answers.{refused};
+ghost use Rattle.permutation.specs.Answers.{noPermutation};
 
 // Document 01: an order. The first n places hold each of 1 to n once, highest charge first; the places past n hold 0.
 #[repr(C)]
@@ -22,8 +22,8 @@ pub struct Placed {
 }
 
 // A job that was to answer a permutation is refused: zeros beside the number. For the jobs of other crates too.
-pub fn refuse(number: u8) -> Permuted
-    ensures { λ r. ⌜ r ≡ refused number ⌝ }
+pub fn no_permutation(number: u8) -> Permuted
+    ensures { λ r. ⌜ r ≡ noPermutation number ⌝ }
 {
     let cells = [0u8; 20];
     Permuted {

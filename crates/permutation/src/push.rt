@@ -6,7 +6,7 @@ ghost use Rattle.theory.specs.Push as meaning;
 ghost use Rattle.permutation.specs.Answers.{pushed};
 use super::answers::Permutation;
 use super::answers::Permuted;
-use super::answers::refuse;
+use super::answers::no_permutation;
 use super::insert::put_in;
 use super::reasons::VALUE;
 use super::validity::check;
@@ -35,14 +35,14 @@ pub fn push(permutation: Permutation, place: usize) -> Permuted
 {
     let number = check(permutation).number;
     if number != 0 {
-        return refuse(number);
+        return no_permutation(number);
     }
     let n = permutation.n;
     if place < 2 {
-        return refuse(VALUE);
+        return no_permutation(VALUE);
     }
     if n < place {
-        return refuse(VALUE);
+        return no_permutation(VALUE);
     }
     let row = permutation.cells;
     let cells = pushed_row(row, place);

@@ -1,4 +1,6 @@
-// Document 01, "Why a job is sent back": the eight words and their numbers. A job that is done has number 0.
+// Document 01, "Why a job is sent back": the eight words and their numbers, and the test of a size. A job that is done has number 0.
+ghost use mathlib.Core.Path.{_≡_};
+ghost use Rattle.theory.specs.Refusal.{sizeOf};
 
 // "n is below 2 or above 20": no group has that many cells
 pub const SIZE: u8 = 1;
@@ -16,3 +18,16 @@ pub const CEILING: u8 = 6;
 pub const IDLE: u8 = 7;
 // an ill-formed bench sheet
 pub const SHEET: u8 = 8;
+
+// SIZE, or 0 for a number of cells that a group has. For other crates too.
+pub fn size_of(n: usize) -> u8
+    ensures { λ r. ⌜ r ≡ sizeOf n ⌝ }
+{
+    if n < 2 {
+        return SIZE;
+    }
+    if 20 < n {
+        return SIZE;
+    }
+    0
+}

@@ -8,7 +8,7 @@ ghost use Rattle.permutation.specs.Spots.{withoutSpots, spotted, checked
 use super::answers::Permutation;
 use super::cell::wide;
 use super::reasons::MUDDLE;
-use super::reasons::SIZE;
+use super::reasons::size_of;
 
 // SIZE, MUDDLE, or 0 for a permutation. The spots are by cell name: 20, which is no spot, for a name that stands nowhere, and zeros beside a refusal.
 pub struct Checked {
@@ -86,11 +86,9 @@ pub fn check(permutation: Permutation) -> Checked
 {
     let n = permutation.n;
     let cells = permutation.cells;
-    if n < 2 {
-        return without_spots(SIZE);
-    }
-    if 20 < n {
-        return without_spots(SIZE);
+    let size = size_of(n);
+    if size != 0 {
+        return without_spots(size);
     }
     if all_zero(&cells, n) {
         return spots_of(&cells, n);

@@ -11,11 +11,10 @@ use lib.Seq.{length-take-le, take-nil, drop-nil}
 use Rattle.theory.specs.Lists.{count}
 use Rattle.theory.specs.Permutation.{IsPermutation}
 use Rattle.theory.specs.Unrank.{placeOfDigit, insertAt, unrank}
-use Rattle.theory.proofs.Ranking.{place-for}
+use Rattle.theory.proofs.Ranking.{place-for, unrank-permutation}
 use Rattle.theory.proofs.Cases.{by-le}
 use Rattle.theory.proofs.Counts.{Adds, adds-between, count-append}
 use Rattle.theory.proofs.Permutations.{empty, added, absent-past}
-use Rattle.theory.proofs.Ranking.{unrank-permutation}
 use Rattle.permutation.specs.Records.{recordOf}
 use Rattle.permutation.specs.Insert.{putIn}
 use Rattle.ranking.specs.BySpots.{passed, spotAfter, cellsBySpots}

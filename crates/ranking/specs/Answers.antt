@@ -4,13 +4,14 @@ use mathlib.Core.Bool.{cond}
 use mathlib.Core.List.{[]}
 use Prim.Native.Nat.{ℕ}
 use lib.Dec.{ltb}
-use Rattle.theory.specs.Reasons.{done, size, value, sized}
+use Rattle.theory.specs.Reasons.{done, value}
 use Rattle.theory.specs.Factorial.{factorial}
 use Rattle.theory.specs.Permutation.{row}
 use Rattle.theory.specs.Rank.{rank, digits}
 use Rattle.theory.specs.Unrank.{unrank}
 use Rattle.permutation.specs.Records.{listOf, faultOf}
-use Rattle.permutation.specs.Answers.{given, permuted}
+use Rattle.theory.specs.Refusal.{given, orElse, sizeOf}
+use Rattle.permutation.specs.Answers.{permuted}
 use Rattle.permutation.specs.declared.answers.Permutation.{Permutation}
 use Rattle.permutation.specs.declared.answers.Permuted.{Permuted}
 use Rattle.ranking.specs.declared.answers.Digits.{Digits}
@@ -26,7 +27,7 @@ ranked p = record { number = faultOf p; rank = given (faultOf p) (rank (p .n) (l
 
 -- "rank at or above n!" is value
 unfoldable pub unrankNumber : ℕ → ℕ → ℕ
-unrankNumber n r = cond (sized n) (cond (ltb r (factorial n)) done value) size
+unrankNumber n r = orElse (sizeOf n) (cond (ltb r (factorial n)) done value)
 
 -- "order of a rank"
 unfoldable pub unranked : ℕ → ℕ → Permuted

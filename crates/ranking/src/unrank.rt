@@ -10,10 +10,10 @@ ghost use Rattle.ranking.specs.BySpots.{spotAfter, cellsBySpots};
 use super::factorials::factorial;
 use permutation::answers::Permutation;
 use permutation::answers::Permuted;
-use permutation::answers::refuse;
+use permutation::answers::no_permutation;
 use permutation::insert::put_in;
-use permutation::reasons::SIZE;
 use permutation::reasons::VALUE;
+use permutation::reasons::size_of;
 
 // How many cells stand before cell m, of m cells, where its digit is d.
 fn passed_by_digit(m: usize, d: usize) -> usize
@@ -63,14 +63,12 @@ fn filled_row(cells: [u8; 20], n: usize, rank: u64) -> [u8; 20]
 pub fn unrank(n: usize, rank: u64) -> Permuted
     ensures { λ r. ⌜ r ≡ unranked n rank ⌝ }
 {
-    if n < 2 {
-        return refuse(SIZE);
-    }
-    if 20 < n {
-        return refuse(SIZE);
+    let size = size_of(n);
+    if size != 0 {
+        return no_permutation(size);
     }
     if factorial(n) <= rank {
-        return refuse(VALUE);
+        return no_permutation(VALUE);
     }
     let zeros = [0u8; 20];
     let cells = filled_row(zeros, n, rank);

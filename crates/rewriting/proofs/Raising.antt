@@ -4,17 +4,12 @@ use mathlib.Core.Path.{_≡_, refl, ap, _∙_}
 use mathlib.Core.List.{List, [], _∷_, reverse}
 use Prim.Native.Nat.{ℕ, suc, _+_, _-_, _≤_, _<_}
 use native.Mathlib.Omega.{arith}
-use borrow.Author.Tests.{le-leb, lt-leb}
 use lib.ListN.{length, getD, take, set}
 use lib.Seq.{take-suc}
-use Rattle.theory.specs.Reasons.{ceiling, maxLevel}
 use Rattle.theory.specs.Levels.{highest, pushLevel, pushLevels}
-use Rattle.theory.specs.CountUp.{ceilingOf}
 use Rattle.theory.proofs.Moves.{reverse-split}
 use Rattle.theory.proofs.Reading.{pushed-length, pushed-highest}
-use Rattle.charge.specs.Answers.{pushesOf}
-use Rattle.charge.specs.declared.answers.Pushes.{Pushes}
-use Rattle.rewriting.specs.Raising.{Raisable, raised}
+use Rattle.rewriting.specs.Raising.{Raisable}
 
 -- the first i cells, the last of them first
 pub reverse-take : (cells : List ℕ) (i : ℕ) → 0 < i → i ≤ length cells → reverse (take i cells) ≡ getD cells (i - 1) 0 ∷ reverse (take (i - 1) cells)
@@ -62,16 +57,3 @@ module _ {first cells : List ℕ} {r top : ℕ} {L : List ℕ} {level i : ℕ} (
           last = omega (arith, v .last);
           left = rw next at (v .left);
         })
-
--- ---- judged on all of them
-
-module _ (L cells : List ℕ) (r : ℕ) {t : ℕ} (e : t ≡ highest L) where
-  pub raise-ceiling : maxLevel < t + r
-      → (_≡_ {A = Pushes} (record { number = ceiling; pushes = 0 }) (pushesOf (ceilingOf L r) r)) × (L ≡ raised L cells r)
-  unfolding raised
-  raise-ceiling h = rw (lt-leb (highest L + r) maxLevel (omega arith)) (refl, refl)
-
-  pub raise-done : {L′ : List ℕ} → t + r ≤ maxLevel → L′ ≡ pushLevels (reverse (take r cells)) L
-      → (_≡_ {A = Pushes} (record { number = 0; pushes = r }) (pushesOf (ceilingOf L r) r)) × (L′ ≡ raised L cells r)
-  unfolding raised
-  raise-done h is = rw (le-leb (highest L + r) maxLevel (omega arith)) (refl, is)

@@ -1,16 +1,15 @@
 -- What a rewrite answers, by the tests that the code makes, and what is read when it is done. Assumes nothing.
-use mathlib.Core.Path.{_≡_, refl, sym, ap, _∙_, subst}
-use mathlib.Core.Bool.{Bool, true, false, cond, _&&_}
-use mathlib.Core.List.{List, _++_, reverse}
+use mathlib.Core.Path.{_≡_, sym, ap, _∙_, subst}
+use mathlib.Core.Bool.{_&&_, and-eq-true-iff}
+use mathlib.Core.List.{List, [], _++_, reverse}
 use Prim.Native.Nat.{ℕ, _-_, _≤_}
 use native.Mathlib.Omega.{arith}
-use borrow.Author.Tests.{eqb-true, leb-true, ne-eqb}
+use borrow.Author.Tests.{eqb-true, leb-true}
 use lib.Dec.{eqb, leb}
 use lib.ListN.{length, take, drop}
 use lib.Seq.{take-take, getD-take}
-use Rattle.theory.specs.Reasons.{done, fit}
 use Rattle.theory.specs.Permutation.{IsPermutation, row}
-use Rattle.theory.specs.Levels.{permutationOf, pushLevels}
+use Rattle.theory.specs.Levels.{permutationOf, pushLevels, readNumber}
 use Rattle.theory.specs.CountUp.{ceilingOf}
 use Rattle.theory.specs.Rewrite.{rewriteNumber, rewritePushes}
 use Rattle.theory.specs.Claims.{Rewriting}
@@ -19,15 +18,16 @@ use Rattle.theory.proofs.Sorting.{permutationOf-permutation}
 use Rattle.theory.proofs.Reading as theory
 use Rattle.theory.proofs.Rewriting.{rewriting}
 use Rattle.permutation.specs.Records.{listOf, recordOf, faultOf}
-use Rattle.permutation.specs.Answers.{given}
+use Rattle.theory.specs.Refusal.{given, sizeOf}
 use Rattle.permutation.specs.declared.answers.Permutation.{Permutation}
 use Rattle.permutation.proofs.Records.{sound}
-use Rattle.permutation.proofs.Answering.{given-done, given-refused, given-so, permuted-done, orElse-refused, orElse-done}
-use Rattle.charge.specs.Answers.{pushesOf, readNumber, reading}
+use Rattle.theory.proofs.Refusal.{refused, answered, given-done, given-refused, given-so, orElse-refused, orElse-done, tested, Readable, readable, read-done}
+use Rattle.permutation.proofs.Answering.{permutedWith}
+use Rattle.charge.specs.Answers.{noPushes, pushesOf, reading}
 use Rattle.charge.specs.declared.answers.Pushes.{Pushes}
-use Rattle.charge.proofs.Numbers.{Readable, readable, read-done}
 use Rattle.charge.proofs.Sorting.{row-first}
-use Rattle.rewriting.specs.Answers.{sizeOf, fitOf, pushesTo, rewriteFault, rewriteReason, rewritten, rewriteLevels, rewriteList, RewriteOf}
+use Rattle.charge.proofs.Numbers.{pushes-refused}
+use Rattle.rewriting.specs.Answers.{fitOf, pushesTo, rewriteFault, rewriteReason, rewritten, rewriteLevels, rewriteList, RewriteOf}
 use Rattle.rewriting.specs.Raising.{Pushable, raised}
 use Rattle.rewriting.proofs.Standing.{row-readable}
 use Rattle.rewriting.proofs.Targets.{target-permutation}
@@ -42,18 +42,13 @@ pub record Judged (L : List ℕ) (target : Permutation) (room : ℕ) : Type 0 wh
   pub same : target .n ≡ length L
   pub enough : length L - 1 ≤ room
 
-fits : (a b : Bool) → cond (a && b) done fit ≡ 0 → (a ≡ true) × (b ≡ true)
-fits true true h = (refl, refl)
-fits true false h = absurd (omega arith)
-fits false b h = absurd (omega arith)
-
 pub judged : {L : List ℕ} {target : Permutation} {room : ℕ} → rewriteFault L target room ≡ 0 → Judged L target room
 unfolding rewriteFault
 judged {L} {target} {room} h =
     let past-target = orElse-done (sizeOf (target .n)) _ (orElse-done (sizeOf (length L)) _ h .1) .1 in
     let past-fit = orElse-done (fitOf L target room) _ past-target in
     let last = orElse-done (faultOf target) (readNumber L) (past-fit .1) in
-    let f = fits (eqb (target .n) (length L)) (leb (length L - 1) room) (past-fit .0) in
+    let f = and-eq-true-iff (eqb (target .n) (length L)) (leb (length L - 1) room) .0 (tested (eqb (target .n) (length L) && leb (length L - 1) room) (λ z. omega arith) (past-fit .0)) in
     record {
       none = h;
       readable = readable (last .1);
@@ -105,8 +100,8 @@ module _ {L : List ℕ} {target : Permutation} {room : ℕ} (j : Judged L target
       rw e (theory.reading L (j .readable .untied) .row-read cs (rewrites .cells) ∙ rewrites .reaches) in
       record {
         read =
-            sym (permuted-done (readNumber L′) (permutationOf L′) target (read-done (rw e (row-readable cs (rewrites .cells) (j .readable))))
-            (sound target long (j .fault) .is ∙ ap recordOf (sym left)));
+            sym (ap (λ (p : Permutation). record { number = 0; permutation = p }) (sound target long (j .fault) .is ∙ ap recordOf (sym left))
+            ∙ answered permutedWith (permutationOf L′) [] (read-done (rw e (row-readable cs (rewrites .cells) (j .readable)))));
         fewest = rw is (rewrites .fewest);
       }
 
@@ -128,15 +123,14 @@ Answered L target list a L′ list′ =
     × (a .number ≡ 0 → RewriteOf L target L′ (a .pushes))))
 
 module _ (L : List ℕ) (target : Permutation) (list : List ℕ) where
-  rewrite-refused : {number : ℕ} → number ≡ rewriteReason L target (length list) → (number ≡ 0 → ⊥)
-      → Answered L target list (record { number = number; pushes = 0 }) L list
-  unfolding rewritten rewriteLevels rewriteList
-  rewrite-refused e ne = rw (ne-eqb (rewriteReason L target (length list)) 0 (λ z. ne (e ∙ z)), e) (refl, (refl, (refl, λ z. absurd (ne (e ∙ z)))))
-
-  pub rewrite-fault : {number : ℕ} → number ≡ rewriteFault L target (length list) → (number ≡ 0 → ⊥)
-      → Answered L target list (record { number = number; pushes = 0 }) L list
-  unfolding rewriteReason
-  rewrite-fault e ne = rewrite-refused (orElse-refused (rewriteFault L target (length list)) _ e ne) ne
+  pub rewrite-fault : {a : Pushes} {number : ℕ} → a ≡ noPushes number → number ≡ rewriteFault L target (length list) → (number ≡ 0 → ⊥)
+      → Answered L target list a L list
+  unfolding rewritten rewriteLevels rewriteList rewriteReason
+  rewrite-fault e fault ne =
+      let is = orElse-refused (rewriteFault L target (length list)) (ceilingOf L (pushesTo L target)) fault ne in
+      let cs : List ℕ = rewritePushes (permutationOf L) (listOf target) in
+      let b = pushes-refused (pushesTo L target) L (pushLevels cs L) e is ne in
+      (b .0, (b .1, (refused (λ number left. left) (cs ++ drop (pushesTo L target) list) list is ne, λ z. absurd (ne (sym (ap (λ (a : Pushes). a .number) e) ∙ z)))))
 
   -- the answer of r pushes is that of the job where r is its number of pushes, and the list gets their names where it is done
   module _ (j : Judged L target (length list)) (long : length (target .cells) ≡ 20) {r : ℕ} {a : Pushes} {L′ : List ℕ}
@@ -151,9 +145,9 @@ module _ (L : List ℕ) (target : Permutation) (list : List ℕ) where
     names : List ℕ
     names = reverse (take r (target .cells)) ++ drop r list
 
-    answered : {list′ : List ℕ} → list′ ≡ given (ceilingOf L r) names list → Answered L target list a L′ list′
+    all-answered : {list′ : List ℕ} → list′ ≡ given (ceilingOf L r) names list → Answered L target list a L′ list′
     unfolding rewritten rewriteLevels rewriteList raised names
-    answered list-is =
+    all-answered list-is =
         let left : L′ ≡ given (ceilingOf L r) (pushLevels (rewritePushes (permutationOf L) (listOf target)) L) L = k .1 ∙ rw (pushes-are j is) in (
           k .0 ∙ rw (reason-is, is),
           (
@@ -169,7 +163,7 @@ module _ (L : List ℕ) (target : Permutation) (list : List ℕ) where
 
     pub rewrite-done : {list′ : List ℕ} → a .number ≡ 0 → list′ ≡ reverse (take r (target .cells)) ++ drop r list → Answered L target list a L′ list′
     unfolding names
-    rewrite-done z list-is = answered (list-is ∙ sym (given-done (ceilingOf L r) _ list (sym number-is ∙ z)))
+    rewrite-done z list-is = all-answered (list-is ∙ sym (given-done (ceilingOf L r) _ list (sym number-is ∙ z)))
 
     pub rewrite-ceiling : (a .number ≡ 0 → ⊥) → Answered L target list a L′ list
-    rewrite-ceiling ne = answered (sym (given-refused (ceilingOf L r) _ list (λ z. ne (number-is ∙ z))))
+    rewrite-ceiling ne = all-answered (sym (given-refused (ceilingOf L r) _ list (λ z. ne (number-is ∙ z))))

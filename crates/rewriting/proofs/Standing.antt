@@ -6,14 +6,14 @@ use Prim.Native.Nat.{ℕ, _≤_}
 use native.Mathlib.Omega.{arith}
 use lib.ListN.{length}
 use Rattle.theory.specs.Lists.{member}
-use Rattle.theory.specs.Levels.{permutationOf, pushLevels}
+use Rattle.theory.specs.Levels.{permutationOf, pushLevels, readNumber}
 use Rattle.theory.proofs.Sorting.{reads-untied}
 use Rattle.theory.proofs.Reading as theory
 use Rattle.theory.proofs.Reading.{reads-row, row-length}
 use Rattle.permutation.specs.Records.{recordOf}
 use Rattle.permutation.specs.declared.answers.Permuted.{Permuted}
-use Rattle.charge.specs.Answers.{readNumber, reading}
-use Rattle.charge.proofs.Numbers.{Readable, readable}
+use Rattle.charge.specs.Answers.{reading}
+use Rattle.theory.proofs.Refusal.{Readable, readable}
 
 pub number-is : (L : List ℕ) {r : Permuted} → r ≡ reading L → r .number ≡ readNumber L
 unfolding reading

@@ -6,20 +6,16 @@ use mathlib.Core.List.{List, _++_}
 use Prim.Native.Nat.{ℕ, _-_, _≤_}
 use lib.Dec.{eqb, leb}
 use lib.ListN.{length, drop}
-use Rattle.theory.specs.Reasons.{done, size, fit, sized}
+use Rattle.theory.specs.Reasons.{done, fit}
 use Rattle.theory.specs.Push.{pushes, Places}
-use Rattle.theory.specs.Levels.{permutationOf, pushLevels}
+use Rattle.theory.specs.Levels.{permutationOf, pushLevels, readNumber}
 use Rattle.theory.specs.CountUp.{ceilingOf}
 use Rattle.theory.specs.Rewrite.{rewriteNumber, rewritePushes}
 use Rattle.permutation.specs.Records.{listOf, faultOf}
-use Rattle.permutation.specs.Answers.{given, orElse}
+use Rattle.theory.specs.Refusal.{given, orElse, sizeOf}
 use Rattle.permutation.specs.declared.answers.Permutation.{Permutation}
-use Rattle.charge.specs.Answers.{pushesOf, readNumber, reading}
+use Rattle.charge.specs.Answers.{pushesOf, reading}
 use Rattle.charge.specs.declared.answers.Pushes.{Pushes}
-
--- "n is below 2 or above 20"
-abbrev pub sizeOf : ℕ → ℕ
-sizeOf n = cond (sized n) done size
 
 -- "target's n differs from the group's, or a push list has fewer than n - 1 bytes"
 abbrev pub fitOf : List ℕ → Permutation → ℕ → ℕ

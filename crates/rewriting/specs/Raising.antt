@@ -6,7 +6,7 @@ use lib.ListN.{length, getD, take}
 use Rattle.theory.specs.Reasons.{maxLevel}
 use Rattle.theory.specs.Levels.{highest, pushLevels}
 use Rattle.theory.specs.CountUp.{ceilingOf}
-use Rattle.permutation.specs.Answers.{given}
+use Rattle.theory.specs.Refusal.{given}
 
 -- the first r of a row of twenty are cells of n
 pub record Pushable (n : ℕ) (cells : List ℕ) (r : ℕ) : Type 0 where

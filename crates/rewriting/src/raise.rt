@@ -7,6 +7,8 @@ ghost use Rattle.theory.specs.Levels as meaning;
 ghost use Rattle.charge.specs.Answers.{pushesOf};
 ghost use Rattle.rewriting.specs.Raising.{Pushable, Raisable, raised};
 use charge::answers::Pushes;
+use charge::answers::done_pushes;
+use charge::answers::no_pushes;
 use charge::judge::highest;
 use permutation::cell::wide;
 use permutation::reasons::CEILING;
@@ -26,7 +28,7 @@ fn push_first(levels: &mut [u16], cells: &[u8; 20], r: usize, top: u16)
     }
 }
 
-// All of them, or CEILING and none: it is judged before the first.
+// All of them, or CEILING and none: it is judged before the first. For other crates too: it asks for a row of cells.
 pub fn raise(levels: &mut [u16], cells: &[u8; 20], r: usize) -> Pushes
     requires { ⌜ Pushable (length (now levels)) (now cells) r ⌝ }
     ensures { λ a. ⌜ a ≡ pushesOf (ceilingOf (now (levels .entry)) r) r ⌝ }
@@ -34,12 +36,8 @@ pub fn raise(levels: &mut [u16], cells: &[u8; 20], r: usize) -> Pushes
 {
     let top = highest(levels);
     if 65535 - (top as usize) < r {
-        return Pushes {
-            number: CEILING,
-            pushes: 0,
-        };
+        return no_pushes(CEILING);
     }
     push_first(levels, cells, r, top);
-    let pushes = r as u32;
-    Pushes { number: 0, pushes }
+    done_pushes(r as u32)
 }

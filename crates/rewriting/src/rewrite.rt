@@ -7,36 +7,38 @@ ghost use Rattle.theory.specs.Rewrite as meaning;
 ghost use Rattle.rewriting.specs.Answers.{rewriteFault, rewritten, rewriteLevels, rewriteList, RewriteOf};
 use super::raise::raise;
 use charge::answers::Pushes;
+use charge::answers::no_pushes;
 use charge::judge::fault;
 use charge::sort::sort_cells;
 use permutation::answers::Permutation;
 use permutation::reasons::FIT;
-use permutation::reasons::SIZE;
+use permutation::reasons::size_of;
 use permutation::validity::check;
 
 // SIZE, FIT, MUDDLE, TIE or 0: all but the ceiling, which is judged on the pushes. `room` is the length of the push list.
 fn judge(levels: &[u16], target: Permutation, room: usize) -> u8
     ensures { λ r. ⌜ r ≡ rewriteFault (now (levels .entry)) target room ⌝ }
 {
-    let group = fault(levels);
-    if group == SIZE {
-        return SIZE;
-    }
-    let checked = check(target).number;
-    if checked == SIZE {
-        return SIZE;
-    }
     let n = levels.len();
+    let group = size_of(n);
+    if group != 0 {
+        return group;
+    }
+    let size = size_of(target.n);
+    if size != 0 {
+        return size;
+    }
     if target.n != n {
         return FIT;
     }
     if room < n - 1 {
         return FIT;
     }
+    let checked = check(target).number;
     if checked != 0 {
         return checked;
     }
-    group
+    fault(levels)
 }
 
 // Goes up the permutation and crosses off the target's cells from its last one on; those that are left must be pushed.
@@ -76,7 +78,7 @@ pub fn rewrite(levels: &mut [u16], target: Permutation, list: &mut [u8]) -> Push
 {
     let number = judge(levels, target, list.len());
     if number != 0 {
-        return Pushes { number, pushes: 0 };
+        return no_pushes(number);
     }
     let mut cells = [0u8; 20];
     sort_cells(levels, &mut cells);

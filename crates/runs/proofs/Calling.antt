@@ -14,11 +14,13 @@ use Rattle.theory.specs.Levels.{highest, permutationOf}
 use Rattle.theory.specs.CountUp.{callNumber, callPushes, callLevels}
 use Rattle.theory.specs.Run.{stepLevels, afterCalls, callNumbers, stepsDone}
 use Rattle.theory.specs.Demand3.{Start, Demand3}
+use Rattle.theory.proofs.Refusal.{refused, answered}
 use Rattle.theory.proofs.CallLists.{after-snoc, done-snoc, numbers-snoc, numbers-long, after-length, number-at, steps-fit}
 use Rattle.theory.proofs.Demand3.{demand3}
-use Rattle.charge.specs.Answers.{counted}
+use Rattle.charge.specs.Answers.{noPushes, donePushes, counted}
 use Rattle.charge.specs.declared.answers.Pushes.{Pushes}
-use Rattle.runs.specs.Calls.{called, calledLevels, calledNumbers, sumDone, CallsOf}
+use Rattle.charge.proofs.Numbers.{pushes-refused, pushes-done}
+use Rattle.runs.specs.Calls.{callsNumber, called, calledLevels, calledNumbers, sumDone, CallsOf}
 use Rattle.runs.proofs.Running.{run-of}
 
 -- the steps that the first i calls did are those of the ones with number 0
@@ -73,7 +75,7 @@ module _ (L ks numbers₀ : List ℕ) where
       -- by the answer of the call, and the levels that it left
       pub made-more : (answer : Pushes) (after : List ℕ) → answer ≡ counted levels k → after ≡ callLevels k levels
           → (pushes + answer .pushes ≤ 65535) × Made L ks numbers₀ (i + 1) after (set numbers i (answer .number)) (pushes + answer .pushes)
-      unfolding counted
+      unfolding counted callPushes
       made-more answer after e f = rw (e, f) (
         rw next-pushes (steps-fit (take (i + 1) ks) L),
         record { levels-are = levels′; numbers-are = numbers′; pushes-are = next-pushes },
@@ -94,17 +96,12 @@ module _ (L ks numbers₀ : List ℕ) where
     pushes-all = v .pushes-are ∙ ap (λ (js : List ℕ). stepsDone js L) whole
 
     module _ (room : length ks ≤ length numbers₀) where
-      pub called-done : _≡_ {A = Pushes} (record { number = 0; pushes = pushes }) (called L ks numbers₀)
-      unfolding called
-      called-done = rw (le-leb (length ks) (length numbers₀) room, pushes-all)
-
-      pub levels-done : levels ≡ calledLevels L ks numbers₀
-      unfolding calledLevels
-      levels-done = rw (le-leb (length ks) (length numbers₀) room) levels-all
-
-      pub numbers-done : numbers ≡ calledNumbers L ks numbers₀
-      unfolding calledNumbers
-      numbers-done = rw (le-leb (length ks) (length numbers₀) room) numbers-all
+      pub called-done : {a : Pushes} → a ≡ donePushes pushes → (a ≡ called L ks numbers₀) × ((levels ≡ calledLevels L ks numbers₀) × (numbers ≡ calledNumbers L ks numbers₀))
+      unfolding called calledLevels calledNumbers
+      called-done e =
+          let fits : callsNumber ks numbers₀ ≡ 0 = rw (le-leb (length ks) (length numbers₀) room) in
+          let b = pushes-done (stepsDone ks L) L (afterCalls ks L) (e ∙ ap donePushes pushes-all) fits levels-all in
+          (b .0, (b .1, numbers-all ∙ answered (λ number left. left) (callNumbers ks L ++ drop (length ks) numbers₀) numbers₀ fits))
 
     pub calls-of : 2 ≤ length L → Start (length L) L → CallsOf L ks levels numbers pushes
     calls-of few start = rw (levels-all, pushes-all) (record {
@@ -141,15 +138,11 @@ module _ (L ks numbers₀ : List ℕ) where
             rw numbers-all (List·getD-append (callNumbers ks L) _ 0 i (omega (arith, numbers-long ks L)) ∙ number-at ks L i h)
 
   -- there is no place for each call's number
-  module _ (short : length numbers₀ < length ks) where
-    pub called-refused : _≡_ {A = Pushes} (record { number = fit; pushes = 0 }) (called L ks numbers₀)
-    unfolding called
-    called-refused = rw (lt-leb (length ks) (length numbers₀) short)
-
-    pub levels-refused : L ≡ calledLevels L ks numbers₀
-    unfolding calledLevels
-    levels-refused = rw (lt-leb (length ks) (length numbers₀) short)
-
-    pub numbers-refused : numbers₀ ≡ calledNumbers L ks numbers₀
-    unfolding calledNumbers
-    numbers-refused = rw (lt-leb (length ks) (length numbers₀) short)
+  pub called-refused : {a : Pushes} → a ≡ noPushes fit → length numbers₀ < length ks
+      → (a ≡ called L ks numbers₀) × ((L ≡ calledLevels L ks numbers₀) × (numbers₀ ≡ calledNumbers L ks numbers₀))
+  unfolding called calledLevels calledNumbers
+  called-refused e short =
+      let is : fit ≡ callsNumber ks numbers₀ = rw (lt-leb (length ks) (length numbers₀) short) in
+      let ne : fit ≡ 0 → ⊥ = λ z. omega arith in
+      let b = pushes-refused (stepsDone ks L) L (afterCalls ks L) e is ne in
+      (b .0, (b .1, refused (λ number left. left) (callNumbers ks L ++ drop (length ks) numbers₀) numbers₀ is ne))

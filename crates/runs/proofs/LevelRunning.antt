@@ -8,21 +8,20 @@ use borrow.Author.Tests.{ne-eqb}
 use lib.ListN.{length, getD, set, replicate}
 use Rattle.theory.specs.Permutation.{IsPermutation, row, top}
 use Rattle.theory.specs.Rank.{rank}
-use Rattle.theory.specs.Levels.{highest, topLessBottom, Gapless, permutationOf, ReadsAs, pushLevel, jump}
-use Rattle.theory.specs.CountUp.{nextCell, countUp, callNumber, callLevels}
+use Rattle.theory.specs.Levels.{highest, topLessBottom, Gapless, readNumber, permutationOf, ReadsAs, pushLevel, jump}
+use Rattle.theory.specs.CountUp.{nextCell, countUp, ceilingOf, callNumber, callLevels}
 use Rattle.theory.specs.Run.{steps, stepLevels}
 use Rattle.theory.specs.Demand3.{Demand3}
 use Rattle.theory.proofs.Sorting.{permutationOf-permutation, reads-permutationOf, reads-untied, reads-is}
 use Rattle.theory.proofs.LevelRun.{run-length, run-reads, run-highest, next-top, countUp-run}
 use Rattle.theory.proofs.Calls.{calling}
-use Rattle.theory.proofs.CallLists.{granted}
 use Rattle.theory.proofs.Demand3.{demand3}
 use Rattle.ranking.specs.Answers.{ranked}
 use Rattle.permutation.specs.declared.answers.Permutation.{Permutation}
 use Rattle.ranking.specs.declared.answers.Ranked.{Ranked}
 use Rattle.ranking.proofs.Values.{ranked-record}
 use Rattle.charge.specs.Answers.{reading}
-use Rattle.charge.proofs.Numbers.{Readable}
+use Rattle.theory.proofs.Refusal.{orElse-done, Readable, readable, ceiling-room}
 use Rattle.runs.specs.Steps.{pushCounts, countIn}
 use Rattle.runs.specs.LevelSteps.{levelsAfter, widest, largestRaise, ranLevels, LevelsOf}
 use Rattle.runs.specs.declared.answers.RanLevels.{RanLevels}
@@ -39,14 +38,18 @@ pub record RunningLevels (L : List ℕ) (done : ℕ) (levels counts : List ℕ) 
 
 -- a call by k would be done on L
 module _ (L : List ℕ) (k : ℕ) (g : callNumber k L ≡ 0) where
+  past : (readNumber L ≡ 0) × (ceilingOf L k ≡ 0)
+  unfolding callNumber
+  past = orElse-done (readNumber L) (ceilingOf L k) g
+
   few : 2 ≤ length L
-  few = granted k L g .0
+  few = readable (past .0) .few
 
   many : length L ≤ 20
-  many = granted k L g .1
+  many = readable (past .0) .many
 
   reads : ReadsAs L (permutationOf L)
-  reads = reads-permutationOf L (granted k L g .2)
+  reads = reads-permutationOf L (readable (past .0) .untied)
 
   d : Demand3 (length L)
   d = demand3 (length L) few
@@ -87,7 +90,7 @@ module _ (L : List ℕ) (k : ℕ) (g : callNumber k L ≡ 0) where
     step-granted more = rw (v .levels-are)
         (let size = long done in
         calling 1 (levelsAfter done L) .done (omega (arith, few)) (omega (arith, many)) (reads-untied (reads-after done))
-        (omega (arith, highest-after done, granted k L g .3)))
+        (omega (arith, highest-after done, ceiling-room L k (past .1))))
 
     -- by what the step did, and the levels that it left
     module _ (cell raise spread : ℕ) (levels′ : List ℕ) (cell-is : cell ≡ nextCell levels) (raise-is : raise ≡ jump (nextCell levels) levels)

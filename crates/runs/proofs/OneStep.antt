@@ -1,33 +1,31 @@
 -- One step on levels, by the answers of the jobs that it asks: read, successor, push. Assumes nothing.
-use mathlib.Core.Path.{_≡_, refl, sym, ap, _∙_}
+use mathlib.Core.Path.{_≡_, sym, ap, _∙_}
 use mathlib.Core.List.{List}
 use Prim.Native.Nat.{ℕ, suc, _-_, _≤_}
 use native.Mathlib.Omega.{arith}
 use lib.ListN.{length, getD}
 use Rattle.theory.specs.Permutation.{cellAt}
 use Rattle.theory.specs.Successor.{successor}
-use Rattle.theory.specs.Levels.{highest, lowest, permutationOf, pushLevel, jump}
-use Rattle.theory.specs.CountUp.{nextCell, callNumber}
+use Rattle.theory.specs.Levels.{highest, lowest, readNumber, permutationOf, pushLevel, jump}
+use Rattle.theory.specs.CountUp.{nextCell, ceilingOf, callNumber}
 use Rattle.theory.proofs.Splits.{successor-bounds}
 use Rattle.theory.proofs.Sorting.{permutationOf-permutation}
 use Rattle.theory.proofs.Extremes.{level≤highest, lowest≤level}
 use Rattle.theory.proofs.Reading.{pushed-length, pushed-level}
-use Rattle.theory.proofs.CallLists.{granted}
 use Rattle.permutation.specs.Records.{recordOf}
 use Rattle.permutation.specs.Answers.{placed}
 use Rattle.permutation.specs.declared.answers.Permutation.{Permutation}
-use Rattle.permutation.specs.declared.answers.Permuted.{Permuted}
 use Rattle.permutation.specs.declared.answers.Placed.{Placed}
-use Rattle.permutation.proofs.Answering.{permuted-done, placed-record}
-use Rattle.charge.specs.Answers.{reading, placeLevels}
-use Rattle.charge.proofs.Numbers.{Readable, read-done, place-done, place-pushed}
-use Rattle.charge.proofs.Pushing.{StandsAt, stands-at}
+use Rattle.permutation.proofs.Answering.{placed-record}
+use Rattle.charge.specs.Answers.{reading, placeNumber, placeLevels}
+use Rattle.theory.proofs.Refusal.{given-done, orElse-done, Readable, read-done, readable, ceiling-room}
+use Rattle.charge.proofs.Numbers.{place-done}
+use Rattle.charge.proofs.Pushing.{PlacedCell, placed-cell}
 
 -- the permutation that is read from levels which have one
 pub reading-record : {L : List ℕ} → Readable L → reading L .permutation ≡ recordOf (permutationOf L)
 unfolding reading
-reading-record {L} r =
-    ap (λ (a : Permuted). a .permutation) (sym (permuted-done _ (permutationOf L) (recordOf (permutationOf L)) (read-done r) refl))
+reading-record r = rw (read-done r)
 
 -- a step on L that pushed this cell and left these levels
 pub record StepDone (L : List ℕ) (cell : ℕ) (after : List ℕ) : Type 0 where
@@ -40,29 +38,33 @@ pub record StepDone (L : List ℕ) (cell : ℕ) (after : List ℕ) : Type 0 wher
 
 -- a count-up call by 1 would be done on L
 module _ (L : List ℕ) (g : callNumber 1 L ≡ 0) where
-  readable : Readable L
-  readable = record { few = granted 1 L g .0; many = granted 1 L g .1; untied = granted 1 L g .2 }
+  past : (readNumber L ≡ 0) × (ceilingOf L 1 ≡ 0)
+  unfolding callNumber
+  past = orElse-done (readNumber L) (ceilingOf L 1) g
+
+  faultless : Readable L
+  faultless = readable (past .0)
 
   -- p is what was read, and this place is what its successor answers
   module _ (p : Permutation) (place : ℕ) (stands : p ≡ reading L .permutation) (asked : place ≡ placed p .place) where
     standing : p ≡ recordOf (permutationOf L)
-    standing = stands ∙ reading-record readable
+    standing = stands ∙ reading-record faultless
 
     place-is : place ≡ successor (length L) (permutationOf L)
     place-is =
         asked ∙ ap (λ (q : Permutation). placed q .place) standing
-        ∙ ap (λ (a : Placed). a .place) (placed-record (length L) (permutationOf L) (readable .few) (readable .many) (permutationOf-permutation L))
+        ∙ ap (λ (a : Placed). a .place) (placed-record (length L) (permutationOf L) (faultless .few) (faultless .many) (permutationOf-permutation L))
 
     pub place-bounds : (2 ≤ place) × (place ≤ length L) × (place ≤ 20)
     place-bounds =
-        let b = successor-bounds (length L) (permutationOf L) (readable .few) in
-        rw place-is (b .0, b .1, omega (arith, b .1, readable .many))
+        let b = successor-bounds (length L) (permutationOf L) (faultless .few) in
+        rw place-is (b .0, b .1, omega (arith, b .1, faultless .many))
 
     -- the cell that stands there
     module _ (cell : ℕ) (at : cell ≡ getD (p .cells) (place - 1) 0) where
-      stands-there : StandsAt L place cell
+      stands-there : PlacedCell L place cell
       stands-there =
-          stands-at L place (omega (arith, place-bounds .0)) (place-bounds .1) (ap (λ (q : Permutation). q .cells) standing) at
+          placed-cell L place (omega (arith, place-bounds .0)) (place-bounds .1) (ap (λ (q : Permutation). q .cells) standing) at
 
       cell-next : cell ≡ nextCell L
       unfolding nextCell
@@ -74,9 +76,10 @@ module _ (L : List ℕ) (g : callNumber 1 L ≡ 0) where
       -- its push is done
       module _ (after : List ℕ) (pushed : after ≡ placeLevels L place) where
         after-is : after ≡ pushLevel (nextCell L) L
+        unfolding placeLevels
         after-is =
             pushed
-            ∙ sym (place-pushed L place (place-done L place readable (place-bounds .0) (place-bounds .1) (granted 1 L g .3)) .1)
+            ∙ given-done (placeNumber L place) _ L (place-done L place faultless (place-bounds .0) (place-bounds .1) (ceiling-room L 1 (past .1)))
             ∙ ap (λ (c : ℕ). pushLevel c L) (sym (stands-there .is) ∙ cell-next)
 
         after-long : length after ≡ length L

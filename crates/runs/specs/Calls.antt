@@ -12,7 +12,7 @@ use Rattle.theory.specs.Levels.{highest, topLessBottom, Gapless, permutationOf,
 use Rattle.theory.specs.CountUp.{countUp, callLevels}
 use Rattle.theory.specs.Run.{steps, pushCount, afterCalls, callNumbers, stepsDone}
 use Rattle.theory.specs.Demand3.{Done, Refused}
-use Rattle.permutation.specs.Answers.{given}
+use Rattle.theory.specs.Refusal.{given}
 use Rattle.charge.specs.Answers.{pushesOf}
 use Rattle.charge.specs.declared.answers.Pushes.{Pushes}
 use Rattle.runs.specs.Steps.{RunOf}

@@ -8,7 +8,7 @@ use Rattle.theory.specs.Rank.{rank}
 use Rattle.theory.specs.Levels.{highest, topLessBottom, Gapless, permutationOf, jump}
 use Rattle.theory.specs.CountUp.{countUp, callNumber, callPushes}
 use Rattle.theory.specs.Run.{steps, stepLevels}
-use Rattle.permutation.specs.Answers.{given}
+use Rattle.theory.specs.Refusal.{given}
 use Rattle.runs.specs.Steps.{pushCounts, countIn, RunOf}
 use Rattle.runs.specs.declared.answers.RanLevels.{RanLevels}
 

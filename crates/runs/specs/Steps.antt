@@ -9,7 +9,7 @@ use Rattle.theory.specs.Permutation.{IsPermutation, row}
 use Rattle.theory.specs.Rank.{rank}
 use Rattle.theory.specs.Run.{steps, pushCount}
 use Rattle.permutation.specs.Records.{listOf, recordOf, faultOf}
-use Rattle.permutation.specs.Answers.{given}
+use Rattle.theory.specs.Refusal.{given}
 use Rattle.permutation.specs.declared.answers.Permutation.{Permutation}
 use Rattle.runs.specs.declared.answers.Ran.{Ran}
 

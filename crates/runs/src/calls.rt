@@ -5,6 +5,8 @@ ghost use lib.ListN.{length};
 ghost use Rattle.theory.specs.Demand3.{Start};
 ghost use Rattle.runs.specs.Calls.{called, calledLevels, calledNumbers, CallsOf};
 use charge::answers::Pushes;
+use charge::answers::done_pushes;
+use charge::answers::no_pushes;
 use charge::count_up::count_up;
 use permutation::reasons::FIT;
 
@@ -19,10 +21,7 @@ pub fn run_calls(levels: &mut [u16], counts: &[u32], numbers: &mut [u8]) -> Push
         → CallsOf (now (levels .entry)) (now (counts .entry)) (now (levels .exit)) (now (numbers .exit)) (r .pushes)) ⌝ }
 {
     if numbers.len() < counts.len() {
-        return Pushes {
-            number: FIT,
-            pushes: 0,
-        };
+        return no_pushes(FIT);
     }
     let mut pushes: u32 = 0;
     let mut i: usize = 0;
@@ -32,5 +31,5 @@ pub fn run_calls(levels: &mut [u16], counts: &[u32], numbers: &mut [u8]) -> Push
         pushes += answer.pushes;
         i += 1;
     }
-    Pushes { number: 0, pushes }
+    done_pushes(pushes)
 }

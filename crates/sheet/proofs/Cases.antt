@@ -7,8 +7,10 @@ use native.Mathlib.Nat.{add-assoc, one-mul}
 use native.Mathlib.Omega.{arith}
 use borrow.Author.Tests.{le-leb, lt-leb, lt-ltb, le-ltb, eq-eqb, ne-eqb}
 use lib.ListN.{length, getD, take, drop}
+use Rattle.theory.specs.Refusal.{sizeOf}
 use Rattle.theory.specs.Levels as levels
 use Rattle.theory.proofs.Cases.{by-le}
+use Rattle.theory.proofs.Refusal.{size-refused}
 use Rattle.sheet.specs.Bytes.{Fault, missized, tied, ill-formed, fault, got, after, check, many, little}
 use Rattle.sheet.specs.Sheet.{group, entry, countAt, rewriteAt, storeAt, bodyAt, command, commandRow, commands, sheet}
 use Rattle.sheet.specs.Parts.{numbers}
@@ -31,13 +33,9 @@ module _ (s : List ℕ) (at : ℕ) where
   group-end h = rw (number-short s 1 at (omega arith))
 
   module _ (n : ℕ) (here : at < length s) (is : n ≡ getD s at 0) where
-    pub group-small : n < 2 → group s at ≡ fault missized
+    pub group-missized : (sizeOf n ≡ 0 → ⊥) → group s at ≡ fault missized
     unfolding group after check
-    group-small small = rw (byte-there s at here, ← is, lt-leb _ _ small)
-
-    pub group-large : 2 ≤ n → 20 < n → group s at ≡ fault missized
-    unfolding group after check
-    group-large some large = rw (byte-there s at here, ← is, le-leb _ _ some, lt-leb _ _ large)
+    group-missized ne = rw (byte-there s at here, ← is, size-refused n ne .0)
 
   module _ (n : ℕ) (size : Sized s at n) where
     pub group-short : length s < at + 1 + 2 * n → group s at ≡ fault ill-formed

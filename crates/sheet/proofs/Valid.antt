@@ -8,10 +8,9 @@ use borrow.Author.Tests.{leb-true, ltb-true, eqb-true, not-true}
 use lib.Dec.{leb, ltb, eqb}
 use lib.ListN.{length, getD, length-map, List·getD-eq-default, List·getD-map}
 use Rattle.theory.specs.Reasons.{sized}
-use Rattle.theory.specs.Levels.{tied}
+use Rattle.theory.specs.Levels.{tied, readNumber}
 use Rattle.theory.proofs.Cases.{by-test, by-le}
-use Rattle.charge.specs.Answers.{readNumber}
-use Rattle.charge.proofs.Numbers.{readable}
+use Rattle.theory.proofs.Refusal.{readable}
 use Rattle.sheet.specs.declared.held.Entry.{Entry}
 use Rattle.sheet.specs.Bytes.{got, many, number}
 use Rattle.sheet.specs.Sheet.{group, countAt, rewriteAt, storeAt, bodyAt, command, Contents, commandRow, commands, sheet}

@@ -3,7 +3,7 @@ use mathlib.Core.Path.{_≡_}
 use mathlib.Core.List.{List, [], _∷_, _++_}
 use Prim.Native.Nat.{ℕ, _+_, _≤_, _<_}
 use lib.ListN.{length, getD, take}
-use Rattle.charge.specs.Answers.{readNumber}
+use Rattle.theory.specs.Levels.{readNumber}
 use Rattle.sheet.specs.Bytes.{got}
 use Rattle.sheet.specs.Sheet.{Contents, entry, sheet}
 use Rattle.sheet.specs.Held.{noEntry, heldOf, contentsOf}

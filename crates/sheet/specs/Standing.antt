@@ -1,7 +1,7 @@
 -- Groups and sheets in memory as code finds them: read, or left by commands. Only inner contracts cite these, here, in `work` and in `text`. Assumes nothing.
 use mathlib.Core.Path.{_≡_}
 use Prim.Native.Nat.{_≤_}
-use Rattle.charge.specs.Answers.{readNumber}
+use Rattle.theory.specs.Levels.{readNumber}
 use Rattle.sheet.specs.Held.{groupOf, groupsOf, heldOf, levelsOf, groupsIn, contentsOf}
 use Rattle.sheet.specs.Claims.{Each, Valid}
 use Rattle.sheet.specs.declared.held.Group.{Group}

@@ -12,8 +12,8 @@ use super::little::little;
 use charge::judge::tied;
 use permutation::cell::wide;
 use permutation::reasons::SHEET;
-use permutation::reasons::SIZE;
 use permutation::reasons::TIE;
+use permutation::reasons::size_of;
 
 // A group and the place after it, or the number of a fault.
 pub struct GroupRead {
@@ -54,11 +54,9 @@ pub fn read_group(s: &[u8], at: usize) -> GroupRead
         return refuse(SHEET);
     }
     let n = wide(s[at]);
-    if n < 2 {
-        return refuse(SIZE);
-    }
-    if 20 < n {
-        return refuse(SIZE);
+    let size = size_of(n);
+    if size != 0 {
+        return refuse(size);
     }
     let from = at + 1;
     if s.len() - from < 2 * n {

@@ -5,11 +5,11 @@ use Prim.Native.Nat.{ℕ, zero, suc, _-_, _≤_}
 use native.Mathlib.Omega.{arith}
 use borrow.Author.Tests.{eq-eqb, ne-eqb}
 use lib.ListN.{length, getD, take}
-use Rattle.theory.specs.Permutation.{row, cellAt, top}
+use lib.Seq.{getD-take}
+use Rattle.theory.specs.Permutation.{cellAt, top}
 use Rattle.theory.specs.Store.{storeCount, storePushes}
 use Rattle.theory.proofs.Cases.{by-name}
 use Rattle.theory.proofs.Members.{Distinct, Among}
-use Rattle.theory.proofs.Padding.{row-at}
 use Rattle.theory.proofs.Splits.{last-split}
 use Rattle.theory.proofs.Passing.{storeCount-most, storeCount-passed, storePushes-first}
 use Rattle.symbols.specs.PassedOver.{unpassed}
@@ -35,23 +35,29 @@ pub record Rule (q xs : List ℕ) (r : ℕ) : Type 0 where
   pub most : r ≤ length q
   pub first : reverse (take r q) ≡ storePushes q xs
 
-module _ (q xs : List ℕ) (dx : Distinct xs) (dq : Distinct q) (h : Among q xs) where
-  count-unpassed : storeCount q xs ≡ unpassed (row q) (length q) (top xs)
+-- q is the first p cells of a row
+module _ (cells : List ℕ) (p : ℕ) (xs : List ℕ) (dx : Distinct xs) (long : length (take p cells) ≡ p) (dq : Distinct (take p cells))
+    (h : Among (take p cells) xs) where
+  count-unpassed : storeCount (take p cells) xs ≡ unpassed cells p (top xs)
   count-unpassed =
-      let p : ℕ = length q in
+      let q : List ℕ = take p cells in
       by-name p 0
-      (λ e t. omega (arith, storeCount-most q xs, unpassed-none (row q) (top xs) p e))
+      (λ e t. omega (arith, storeCount-most q xs, long, unpassed-none cells (top xs) p e))
       (λ ne t.
       let c : ℕ = cellAt p q in
-      let last : getD (row q) (p - 1) 0 ≡ c = row-at q (p - 1) (omega (arith, ne)) in
-      let parts : q ≡ take (p - 1) q ++ c ∷ [] = last-split p q (omega (arith, ne)) refl in
+      let last : getD cells (p - 1) 0 ≡ c = sym (getD-take p cells (p - 1) 0 (omega (arith, ne))) in
+      let parts : q ≡ take (p - 1) q ++ c ∷ [] = last-split p q (omega (arith, ne)) long in
       let passed = storeCount-passed xs dx (take (p - 1) q) c (rw (← parts) dq) (rw (← parts) h) in
       let count = ap (λ (l : List ℕ). storeCount l xs) parts in
       by-name (top xs) c
-      (λ e u. omega (arith, rw u at passed, count, ap length parts, unpassed-last (row q) (top xs) p ne (last ∙ sym e)))
-      (λ e u. omega (arith, rw u at passed, count, ap length parts, unpassed-all (row q) (top xs) p ne (λ z. e (sym z ∙ last)))))
+      (λ e u. omega (arith, rw u at passed, count, ap length parts, long, unpassed-last cells (top xs) p ne (last ∙ sym e)))
+      (λ e u. omega (arith, rw u at passed, count, ap length parts, long, unpassed-all cells (top xs) p ne (λ z. e (sym z ∙ last)))))
 
-  pub rule : {r : ℕ} → r ≡ unpassed (row q) (length q) (top xs) → Rule q xs r
+  pub rule : {r : ℕ} → r ≡ unpassed cells p (top xs) → Rule (take p cells) xs r
   rule e =
       let is = e ∙ sym count-unpassed in
-      record { count = is; most = omega (arith, is, storeCount-most q xs); first = rw is (sym (storePushes-first xs dx q dq h)) }
+      record {
+        count = is;
+        most = omega (arith, is, storeCount-most (take p cells) xs);
+        first = rw is (sym (storePushes-first xs dx (take p cells) dq h));
+      }

@@ -1,19 +1,20 @@
 -- What each way out of the prefix of a symbol answers: a number where there is none, or the row of its cells. Assumes nothing.
 use mathlib.Core.Path.{_≡_}
-use mathlib.Core.Bool.{true, and-false}
+use mathlib.Core.Bool.{true, cond, _&&_, and-false, and-eq-true-iff}
 use mathlib.Core.List.{List, _++_}
 use Prim.Native.Nat.{ℕ, _≤_, _<_}
 use native.Mathlib.Omega.{arith}
-use borrow.Author.Tests.{ne-eqb, le-leb, lt-leb, lt-ltb, le-ltb}
-use lib.Dec.{leb}
+use borrow.Author.Tests.{ne-eqb, leb-true, le-leb, lt-leb, ltb-true, lt-ltb, le-ltb}
+use lib.Dec.{leb, ltb}
 use lib.ListN.{length, take, drop, replicate, length-append, length-drop}
 use lib.Seq.{take-at}
-use Rattle.theory.specs.Reasons.{done, size, value}
+use Rattle.theory.specs.Reasons.{done, value}
+use Rattle.theory.specs.Refusal.{sizeOf}
 use Rattle.theory.specs.Factorial.{factorial, falling}
 use Rattle.theory.specs.Permutation.{row}
 use Rattle.theory.specs.Lists.{names, without}
 use Rattle.theory.specs.Prefix.{IsPrefix, prefixAt, prefixLength, symbolPrefix}
-use Rattle.theory.proofs.Cases.{by-le}
+use Rattle.theory.proofs.Refusal.{orElse-refused, orElse-done, tested, size-done, size-range}
 use Rattle.theory.proofs.Factorials.{falling-quotient}
 use Rattle.theory.proofs.Names.{names-length}
 use Rattle.theory.proofs.Numbering.{over-length}
@@ -31,26 +32,22 @@ abbrev none : ℕ → Prefixed
 none k = record { number = k; length = 0; cells = zeros }
 
 module _ (n m s : ℕ) where
-  refused : (k : ℕ) → prefixReason n m s ≡ k → (k ≡ 0 → ⊥) → none k ≡ prefixed n m s
+  pub prefix-refused : {number : ℕ} → number ≡ prefixReason n m s → (number ≡ 0 → ⊥) → none number ≡ prefixed n m s
   unfolding prefixed
-  refused k e h = rw (e, ne-eqb k 0 h)
+  prefix-refused e ne = rw (← e, ne-eqb _ 0 ne)
 
-  pub too-few : n < 2 → none size ≡ prefixed n m s
+  pub size-reason : {number : ℕ} → number ≡ sizeOf n → (number ≡ 0 → ⊥) → number ≡ prefixReason n m s
   unfolding prefixReason
-  too-few h = refused size (rw (lt-leb 2 n h)) (λ z. omega arith)
+  size-reason e ne = orElse-refused (sizeOf n) _ e ne
 
-  pub too-many : 20 < n → none size ≡ prefixed n m s
-  unfolding prefixReason
-  too-many h = refused size (rw (lt-leb n 20 h, and-false (leb 2 n))) (λ z. omega arith)
-
-  module _ (few : 2 ≤ n) (many : n ≤ 20) where
-    pub too-large : factorial n < m → none value ≡ prefixed n m s
+  module _ (sized : sizeOf n ≡ 0) where
+    pub too-large : factorial n < m → value ≡ prefixReason n m s
     unfolding prefixReason
-    too-large h = refused value (rw (le-leb 2 n few, le-leb n 20 many, lt-leb m (factorial n) h, and-false (leb 1 m))) (λ z. omega arith)
+    too-large h = rw (sized, lt-leb m (factorial n) h, and-false (leb 1 m))
 
-    pub no-symbol : m ≤ s → none value ≡ prefixed n m s
+    pub no-symbol : m ≤ s → value ≡ prefixReason n m s
     unfolding prefixReason
-    no-symbol h = refused value (rw (le-leb 2 n few, le-leb n 20 many, le-ltb s m h, and-false)) (λ z. omega arith)
+    no-symbol h = rw (sized, le-ltb s m h, and-false)
 
 -- ---- the prefix of symbol s of m on n cells
 pub record Coded (n m s : ℕ) : Type 0 where
@@ -64,19 +61,17 @@ coded-right {n} {m} v = rw (le-leb 1 m (omega (arith, v .below)), le-leb m (fact
 
 pub prefix-done : {n m s : ℕ} → Coded n m s → prefixReason n m s ≡ done
 unfolding prefixReason
-prefix-done {n} {m} {s} v = rw (le-leb 2 n (v .few), le-leb n 20 (v .many), coded-right v, lt-ltb s m (v .below))
+prefix-done {n} {m} {s} v = rw (size-done n (v .few) (v .many), coded-right v, lt-ltb s m (v .below))
 
 -- it has a prefix where there is no reason against it
-pub in-range : {n m s : ℕ} → 2 ≤ n → n ≤ 20 → prefixReason n m s ≡ done → Coded n m s
+pub in-range : {n m s : ℕ} → prefixReason n m s ≡ done → Coded n m s
 unfolding prefixReason
-in-range {n} {m} {s} few many h =
-    let sized = le-leb 2 n few in
-    let sized-too = le-leb n 20 many in
-    by-le m (factorial n)
-    (λ most. by-le m s
-    (λ l. absurd (omega (arith, rw (sized, sized-too, le-ltb s m l, and-false (coded n m)) at h)))
-    (λ below. record { few = few; many = many; most = most; below = below }))
-    (λ l. absurd (omega (arith, rw (sized, sized-too, lt-leb m (factorial n) l, and-false (leb 1 m)) at h)))
+in-range {n} {m} {s} h =
+    let past = orElse-done (sizeOf n) (cond (coded n m && ltb s m) done value) h in
+    let size = size-range n (past .0) in
+    let b = and-eq-true-iff (coded n m) (ltb s m) .0 (tested (coded n m && ltb s m) (λ z. omega arith) (past .1)) in
+    let most = and-eq-true-iff (leb 1 m) (leb m (factorial n)) .0 (b .0) .1 in
+    record { few = size .0; many = size .1; most = leb-true m (factorial n) most; below = ltb-true s m (b .1) }
 
 -- p is its length
 module _ {n m s : ℕ} (v : Coded n m s) {p : ℕ} (e : p ≡ prefixLength n m) where

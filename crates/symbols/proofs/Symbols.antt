@@ -3,12 +3,12 @@ use mathlib.Core.Path.{_≡_, ap, _∙_}
 use mathlib.Core.List.{List}
 use Prim.Native.Nat.{ℕ, _≤_, _<_}
 use native.Mathlib.Omega.{arith}
-use borrow.Author.Tests.{le-leb, lt-leb, lt-ltb, le-ltb, ne-eqb}
+use borrow.Author.Tests.{le-leb, lt-leb, lt-ltb, le-ltb}
 use lib.ListN.{length, take}
 use Rattle.theory.specs.Reasons.{value, idle}
 use Rattle.theory.specs.Factorial.{factorial}
 use Rattle.theory.specs.Permutation.{row}
-use Rattle.theory.specs.Levels.{permutationOf}
+use Rattle.theory.specs.Levels.{permutationOf, readNumber}
 use Rattle.theory.specs.Prefix.{prefixNumber, prefixLength, symbolOf}
 use Rattle.theory.proofs.Prefixes.{coding}
 use Rattle.theory.proofs.Sorting.{permutationOf-permutation, permutationOf-length}
@@ -19,9 +19,7 @@ use Rattle.permutation.specs.declared.answers.Permuted.{Permuted}
 use Rattle.permutation.specs.declared.validity.Checked.{Checked}
 use Rattle.permutation.proofs.Records.{sound, fault-record}
 use Rattle.permutation.proofs.Checking.{check-spots}
-use Rattle.permutation.proofs.Answering.{orElse-refused}
-use Rattle.charge.specs.Answers.{readNumber}
-use Rattle.charge.proofs.Numbers.{Readable, read-done}
+use Rattle.theory.proofs.Refusal.{refused, orElse-refused, Readable, read-done}
 use Rattle.charge.proofs.Sorting.{row-long, row-first}
 use Rattle.symbols.specs.Answers.{symbolReason, symbolRead}
 use Rattle.symbols.specs.PrefixDigits.{Numbered}
@@ -70,7 +68,7 @@ module _ (L : List ℕ) (m : ℕ) where
   pub symbol-refused : {number : ℕ} → number ≡ symbolReason L m → (number ≡ 0 → ⊥)
       → _≡_ {A = Symbol} (record { number = number; symbol = 0 }) (symbolRead L m)
   unfolding symbolRead
-  symbol-refused e ne = rw (← e, ne-eqb _ 0 ne)
+  symbol-refused e ne = refused (λ number symbol. record { number = number; symbol = symbol }) (symbolOf (length L) m (permutationOf L)) 0 e ne
 
   pub symbol-fault : {number : ℕ} → number ≡ readNumber L → (number ≡ 0 → ⊥) → number ≡ symbolReason L m
   unfolding symbolReason

@@ -9,14 +9,14 @@ use Rattle.theory.specs.Reasons.{done, value, idle}
 use Rattle.theory.specs.Lists.{without}
 use Rattle.theory.specs.Factorial.{factorial}
 use Rattle.theory.specs.Permutation.{row}
-use Rattle.theory.specs.Levels.{permutationOf, pushLevels}
+use Rattle.theory.specs.Levels.{permutationOf, pushLevels, readNumber}
 use Rattle.theory.specs.CountUp.{ceilingOf}
 use Rattle.theory.specs.Prefix.{prefixLength, symbolPrefix, symbolOf}
 use Rattle.theory.specs.Store.{storeCount, storePushes}
-use Rattle.permutation.specs.Answers.{given, orElse, permuted}
-use Rattle.charge.specs.Answers.{pushesOf, readNumber, reading}
+use Rattle.theory.specs.Refusal.{given, orElse, sizeOf}
+use Rattle.permutation.specs.Answers.{permuted}
+use Rattle.charge.specs.Answers.{pushesOf, reading}
 use Rattle.charge.specs.declared.answers.Pushes.{Pushes}
-use Rattle.rewriting.specs.Answers.{sizeOf}
 use Rattle.symbols.specs.declared.answers.Symbol.{Symbol}
 use Rattle.symbols.specs.declared.answers.Prefixed.{Prefixed}
 

@@ -1,11 +1,13 @@
 // Store a symbol: its prefix comes to the top.
 ghost use mathlib.Core.Path.{_≡_};
 ghost use Prim.Native.Nat.{_≤_};
-ghost use lib.ListN.{length};
+ghost use lib.ListN.{length, take};
 ghost use Rattle.symbols.specs.Answers.{stored, storeLevels, StoreOf};
 ghost use Rattle.symbols.specs.PassedOver as passing;
+ghost use Rattle.symbols.specs.AnyPrefix.{Storable, prefixPushes, prefixLevels, LedBy};
 use super::prefix::prefix;
 use charge::answers::Pushes;
+use charge::answers::no_pushes;
 use charge::read::read;
 use rewriting::raise::raise;
 
@@ -23,6 +25,17 @@ fn unpassed(prefix: &[u8; 20], p: usize, top: u8) -> usize
     p
 }
 
+// Any prefix of p cells, at the front of its row, is stored; `cells` is the row of the levels' permutation. For other crates too: it asks for both rows.
+pub fn store_prefix(levels: &mut [u16], cells: &[u8; 20], prefix: &[u8; 20], p: usize) -> Pushes
+    requires { ⌜ Storable (now levels) (now cells) (now prefix) p ⌝ }
+    ensures { λ r. ⌜ r ≡ prefixPushes (now (levels .entry)) (take p (now (prefix .entry))) ⌝ }
+    ensures { λ _. ⌜ now (levels .exit) ≡ prefixLevels (now (levels .entry)) (take p (now (prefix .entry))) ⌝ }
+    ensures { λ r. ⌜ (r .number ≡ 0 → LedBy (take p (now (prefix .entry))) (now (levels .entry)) (now (levels .exit))) ⌝ }
+{
+    let r = unpassed(prefix, p, cells[0]);
+    raise(levels, prefix, r)
+}
+
 // The last clause: what the levels then are read as, and that the symbol is read back.
 pub fn store(levels: &mut [u16], m: u64, symbol: u64) -> Pushes
     ensures { λ r. ⌜ r ≡ stored (now (levels .entry)) m symbol ⌝ }
@@ -31,21 +44,13 @@ pub fn store(levels: &mut [u16], m: u64, symbol: u64) -> Pushes
 {
     let standing = read(levels);
     if standing.number != 0 {
-        return Pushes {
-            number: standing.number,
-            pushes: 0,
-        };
+        return no_pushes(standing.number);
     }
     let found = prefix(levels.len(), m, symbol);
     if found.number != 0 {
-        return Pushes {
-            number: found.number,
-            pushes: 0,
-        };
+        return no_pushes(found.number);
     }
     let cells = standing.permutation.cells;
     let to = found.cells;
-    let p = found.length;
-    let r = unpassed(&to, p, cells[0]);
-    raise(levels, &to, r)
+    store_prefix(levels, &cells, &to, found.length)
 }

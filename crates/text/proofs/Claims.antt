@@ -2,14 +2,14 @@
 use mathlib.Core.Path.{ap}
 use Rattle.theory.specs.CountUp.{callNumber, callPushes, callLevels, countUp, nextCell}
 use Rattle.theory.specs.Lists.{delta}
-use Rattle.theory.specs.Levels.{insertByLevel, sortByLevel, permutationOf, pushLevel}
+use Rattle.theory.specs.Levels.{insertByLevel, sortByLevel, permutationOf, pushLevel, readNumber}
 use Rattle.theory.specs.Successor.{successor, smaller}
 use Rattle.theory.specs.Permutation.{placeOf}
 use Rattle.theory.specs.Push.{push}
 use Rattle.theory.specs.Rewrite.{rewriteNumber, rewritePushes}
 use Rattle.theory.specs.Rank.{digit, remaining, rank}
 use Rattle.permutation.specs.Records.{onceEach, allZero, faultOf}
-use Rattle.charge.specs.Answers.{counted, readNumber}
+use Rattle.charge.specs.Answers.{counted}
 use Rattle.rewriting.specs.Answers.{rewriteFault, rewriteReason, rewritten, rewriteLevels}
 use Rattle.symbols.specs.Answers.{stored, storeLevels, storeReason, prefixReason}
 use Rattle.sheet.proofs.Claims.{sheets}

@@ -5,7 +5,7 @@ use Prim.Native.Nat.{ℕ}
 use lib.Dec.{leb}
 use lib.ListN.{length, drop}
 use Rattle.theory.specs.Reasons.{done, fit}
-use Rattle.permutation.specs.Answers.{given}
+use Rattle.theory.specs.Refusal.{given}
 use Rattle.text.specs.declared.answers.Printed.{Printed}
 
 -- a buffer that is shorter than the text is fit

@@ -1,16 +1,16 @@
 -- Lists of count-up calls, whatever the levels: one call more, the number of each, how many levels they leave, and a bound on the steps done.
 -- Assumes nothing.
 use mathlib.Core.Path.{_≡_, refl, ap, _∙_}
-use mathlib.Core.Bool.{false}
 use mathlib.Core.List.{List, [], _∷_, _++_}
 use Prim.Native.Nat.{ℕ, zero, suc, _+_, _-_, _≤_, _<_}
 use native.Mathlib.Omega.{arith}
 use lib.ListN.{length, getD, take}
-use Rattle.theory.specs.Levels.{highest, tied, pushLevel}
-use Rattle.theory.specs.CountUp.{nextCell, countUp, callNumber, callPushes, callLevels}
+use Rattle.theory.specs.Levels.{highest, readNumber, pushLevel}
+use Rattle.theory.specs.CountUp.{nextCell, countUp, ceilingOf, callNumber, callPushes, callLevels}
 use Rattle.theory.specs.Run.{afterCalls, callNumbers, stepsDone}
 use Rattle.theory.specs.Demand3.{Start}
-use Rattle.theory.proofs.Cases.{by-test, by-name, by-le}
+use Rattle.theory.proofs.Cases.{by-name}
+use Rattle.theory.proofs.Refusal.{orElse-done, readable, ceiling-room}
 use Rattle.theory.proofs.Reading.{pushed-length}
 use Rattle.theory.proofs.Calls.{calling, call-number}
 use Rattle.theory.proofs.Demand3.{demand3}
@@ -59,28 +59,19 @@ number-at (k ∷ ks) L zero h = refl
 number-at (k ∷ ks) L (suc i) h = number-at ks (callLevels k L) i (omega arith)
 
 -- ---- the steps done fit: the highest level bounds them
-pub granted : (k : ℕ) (L : List ℕ) → callNumber k L ≡ 0 → (2 ≤ length L) × (length L ≤ 20) × (tied L ≡ false) × (highest L + k ≤ 65535)
-granted k L e =
-    by-le 2 (length L)
-    (λ few. by-le (length L) 20
-    (λ many. by-test (tied L)
-    (λ t. absurd (omega (arith, e, calling k L .tie few many t)))
-    (λ t. by-le (highest L + k) 65535 (λ h. (few, many, t, h)) (λ h. absurd (omega (arith, e, calling k L .ceiling few many t h)))))
-    (λ h. absurd (omega (arith, e, calling k L .too-many h))))
-    (λ h. absurd (omega (arith, e, calling k L .too-few h)))
-
 steps-room : (ks L : List ℕ) → stepsDone ks L ≤ 65535 - highest L
-unfolding stepsDone afterCalls
+unfolding stepsDone afterCalls callNumber
 steps-room [] L = omega arith
 steps-room (k ∷ ks) L = by-name (callNumber k L) 0
     (λ e t.
-    let g = granted k L e in
-    let start : Start (length L) L = record { few = g .1; long = refl; untied = g .2 } in
+    let g = orElse-done (readNumber L) (ceilingOf L k) e in
+    let r = readable (g .0) in
+    let start : Start (length L) L = record { few = r .many; long = refl; untied = r .untied } in
     omega (
       arith,
-      g .3,
+      ceiling-room L k (g .1),
       calling k L .counted e .0,
-      demand3 (length L) (g .0) .highest-level L start (k ∷ []),
+      demand3 (length L) (r .few) .highest-level L start (k ∷ []),
       steps-room ks (callLevels k L),
     ))
     (λ ne t. let u = calling k L .unchanged ne in omega (arith, u .0, ap highest (u .1), steps-room ks (callLevels k L)))

@@ -1,34 +1,31 @@
 -- Lists of count-up calls on levels without a tie: the levels that they leave are those of a run of steps. Assumes nothing.
 use mathlib.Core.Path.{_≡_, refl, ap, _∙_}
-use mathlib.Core.Bool.{true, false}
+use mathlib.Core.Bool.{false}
 use mathlib.Core.List.{List, [], _∷_, _++_}
 use Prim.Native.Nat.{ℕ, _+_, _≤_, _<_}
 use native.Mathlib.Omega.{arith}
 use borrow.Author.Tests.{le-leb, lt-leb, ne-eqb}
-use lib.Dec.{leb}
 use lib.ListN.{length}
-use Rattle.theory.specs.Levels.{highest, ReadsAs, tied}
+use Rattle.theory.specs.Levels.{highest, ReadsAs, tied, readNumber}
 use Rattle.theory.specs.CountUp.{callNumber, callPushes, callLevels}
 use Rattle.theory.specs.Run.{steps, stepLevels, afterCalls, callNumbers, stepsDone}
 use Rattle.theory.specs.Claims.{Calling}
 use Rattle.theory.specs.Demand3.{Done, Refused}
 use Rattle.theory.proofs.Cases.{by-le}
+use Rattle.theory.proofs.Refusal.{size-large, size-done}
 use Rattle.theory.proofs.Sorting.{reads-untied}
 use Rattle.theory.proofs.LevelRun.{run-length, run-reads, stepLevels-add, countUp-run}
 
 -- ---- one call
 
 pub calling : (k : ℕ) (L : List ℕ) → Calling k L
-unfolding callNumber callPushes callLevels
+unfolding callNumber callPushes callLevels readNumber
 calling k L = record {
   too-few = λ h. rw (lt-leb 2 (length L) h);
-  too-many = λ h.
-      let low : leb 2 (length L) ≡ true = le-leb 2 (length L) (omega arith) in
-      let high : leb (length L) 20 ≡ false = lt-leb (length L) 20 h in
-      rw (low, high);
-  tie = λ low high t. rw (le-leb 2 (length L) low, le-leb (length L) 20 high, t);
-  ceiling = λ low high t h. rw (le-leb 2 (length L) low, le-leb (length L) 20 high, t, lt-leb);
-  done = λ low high t h. rw (le-leb 2 (length L) low, le-leb (length L) 20 high, t, le-leb);
+  too-many = λ h. rw (← size-large (length L) h);
+  tie = λ low high t. rw (size-done (length L) low high, t);
+  ceiling = λ low high t h. rw (size-done (length L) low high, t, lt-leb);
+  done = λ low high t h. rw (size-done (length L) low high, t, le-leb);
   counted = λ e. rw e (refl, refl);
   unchanged = λ ne. rw (ne-eqb (callNumber k L) 0 ne) (refl, refl);
 }

@@ -1,5 +1,6 @@
 pub mod Reasons
 pub mod Cases
+pub mod Refusal
 pub mod Counts
 pub mod Permutations
 pub mod Members

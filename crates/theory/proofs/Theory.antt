@@ -8,7 +8,7 @@ use Rattle.theory.proofs.Stepping.{stepping}
 use Rattle.theory.proofs.Reading.{reading}
 use Rattle.theory.proofs.Rewriting.{rewriting}
 use Rattle.theory.proofs.Prefixes.{numbering, coding}
-use Rattle.theory.proofs.Storing.{storing}
+use Rattle.theory.proofs.Storing.{storing, symbol-storing}
 use Rattle.theory.proofs.Calls.{calling}
 use Rattle.theory.proofs.Demand3.{demand3}
 use Rattle.theory.proofs.Readings.{readings}
@@ -25,6 +25,7 @@ theory = record {
   numbering = numbering;
   coding = coding;
   storing = storing;
+  symbol-storing = symbol-storing;
   calling = calling;
   demand3 = demand3;
   readings = readings;

@@ -131,19 +131,22 @@ pub record Coding (n m : ℕ) : Type 0 where
   -- "With m = 1, p is 0"
   pub one : m ≡ 1 → prefixLength n m ≡ 0
 
--- storing symbol s of m in a permutation of n cells
-pub record Storing (n m s : ℕ) (xs : List ℕ) : Type 0 where
+-- storing a prefix q of p cells in a permutation of n cells
+pub record Storing (n p : ℕ) (q xs : List ℕ) : Type 0 where
   -- the prefix, and below it the other cells in their old sequence
-  pub reaches : storePrefix (symbolPrefix n m s) xs ≡ symbolPrefix n m s ++ without (symbolPrefix n m s) xs
+  pub reaches : storePrefix q xs ≡ q ++ without q xs
   -- by the pushes that it says, each of a cell, at a place 2 to n; the count is theirs
-  pub pushed : pushCells (storePushes (symbolPrefix n m s) xs) xs ≡ storePrefix (symbolPrefix n m s) xs
-  pub cells : (c : ℕ) → member c (storePushes (symbolPrefix n m s) xs) ≡ true → (1 ≤ c) × (c ≤ n)
-  pub places : Places n (cellPlaces (storePushes (symbolPrefix n m s) xs) xs)
-  pub counted : storeCount (symbolPrefix n m s) xs ≡ length (storePushes (symbolPrefix n m s) xs)
+  pub pushed : pushCells (storePushes q xs) xs ≡ storePrefix q xs
+  pub cells : (c : ℕ) → member c (storePushes q xs) ≡ true → (1 ≤ c) × (c ≤ n)
+  pub places : Places n (cellPlaces (storePushes q xs) xs)
+  pub counted : storeCount q xs ≡ length (storePushes q xs)
   -- only the prefix's last cell, which is handled first, can be on top then and be passed over
-  pub passed :
-      1 ≤ prefixLength n m
-      → storeCount (symbolPrefix n m s) xs + cond (eqb (top xs) (cellAt (prefixLength n m) (symbolPrefix n m s))) 1 0 ≡ prefixLength n m
+  pub passed : 1 ≤ p → storeCount q xs + cond (eqb (top xs) (cellAt p q)) 1 0 ≡ p
+
+-- storing symbol s of m in a permutation of n cells
+pub record SymbolStoring (n m s : ℕ) (xs : List ℕ) : Type 0 where
+  -- it has a prefix, which is stored as any other
+  pub prefix : IsPrefix n (prefixLength n m) (symbolPrefix n m s)
   -- "With m = 1 [..] no push is done."
   pub one : m ≡ 1 → storeCount (symbolPrefix n m s) xs ≡ 0
   -- what was stored is read

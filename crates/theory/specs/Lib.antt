@@ -1,4 +1,5 @@
 pub mod Reasons
+pub mod Refusal
 pub mod Lists
 pub mod Least
 pub mod Factorial

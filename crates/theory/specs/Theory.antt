@@ -7,7 +7,8 @@ use lib.ListN.{length}
 use Rattle.theory.specs.Factorial.{factorial}
 use Rattle.theory.specs.Permutation.{IsPermutation}
 use Rattle.theory.specs.Levels.{tied}
-use Rattle.theory.specs.Claims.{Reasons, Factorials, Padding, Ranking, Stepping, Reading, Rewriting, Numbering, Coding, Storing, Calling}
+use Rattle.theory.specs.Prefix.{IsPrefix}
+use Rattle.theory.specs.Claims.{Reasons, Factorials, Padding, Ranking, Stepping, Reading, Rewriting, Numbering, Coding, Storing, SymbolStoring, Calling}
 use Rattle.theory.specs.Demand3.{Demand3}
 use Rattle.theory.specs.Readings.{Readings}
 
@@ -21,7 +22,8 @@ pub record Theory : Type 0 where
   pub rewriting : (n : ℕ) (xs target : List ℕ) → 1 ≤ n → IsPermutation n xs → IsPermutation n target → Rewriting n xs target
   pub numbering : (n p : ℕ) → p ≤ n → Numbering n p
   pub coding : (n m : ℕ) → m ≤ factorial n → Coding n m
-  pub storing : (n m s : ℕ) (xs : List ℕ) → m ≤ factorial n → s < m → IsPermutation n xs → Storing n m s xs
+  pub storing : (n p : ℕ) (q xs : List ℕ) → IsPrefix n p q → IsPermutation n xs → Storing n p q xs
+  pub symbol-storing : (n m s : ℕ) (xs : List ℕ) → m ≤ factorial n → s < m → IsPermutation n xs → SymbolStoring n m s xs
   pub calling : (k : ℕ) (L : List ℕ) → Calling k L
   pub demand3 : (n : ℕ) → 2 ≤ n → Demand3 n
   pub readings : Readings

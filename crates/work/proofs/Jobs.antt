@@ -5,7 +5,7 @@ use Prim.Native.Nat.{ℕ}
 use native.Mathlib.Omega.{arith}
 use lib.ListN.{length}
 use Rattle.theory.specs.Reasons.{done}
-use Rattle.theory.specs.Levels.{permutationOf, ReadsAs}
+use Rattle.theory.specs.Levels.{permutationOf, ReadsAs, readNumber}
 use Rattle.theory.specs.CountUp.{callNumber, callLevels}
 use Rattle.theory.specs.Rewrite.{rewritePushes}
 use Rattle.theory.specs.Store.{storePushes}
@@ -15,9 +15,7 @@ use Rattle.theory.proofs.LevelRun.{run-length, run-reads, countUp-run}
 use Rattle.theory.proofs.CallLists.{call-length}
 use Rattle.permutation.specs.Records.{listOf}
 use Rattle.permutation.specs.declared.answers.Permutation.{Permutation}
-use Rattle.permutation.proofs.Answering.{given-so}
-use Rattle.charge.specs.Answers.{readNumber}
-use Rattle.charge.proofs.Numbers.{Readable, readable, read-done}
+use Rattle.theory.proofs.Refusal.{given-so, Readable, readable, read-done}
 use Rattle.rewriting.specs.Answers.{rewriteReason, rewriteLevels}
 use Rattle.symbols.specs.Answers.{prefixOn, storeReason, storeLevels}
 use Rattle.rewriting.proofs.Rewriting.{rewrite-readable}

@@ -3,14 +3,14 @@ use mathlib.Core.Path.{_≡_, ap, _∙_}
 use mathlib.Core.List.{List}
 use Prim.Native.Nat.{ℕ}
 use lib.ListN.{length}
-use Rattle.theory.specs.Levels.{permutationOf}
+use Rattle.theory.specs.Levels.{permutationOf, readNumber}
 use Rattle.theory.proofs.Sorting.{permutationOf-permutation}
 use Rattle.ranking.specs.Answers.{ranked}
 use Rattle.permutation.specs.declared.answers.Permuted.{Permuted}
 use Rattle.ranking.specs.declared.answers.Ranked.{Ranked}
 use Rattle.ranking.proofs.Values.{ranked-record}
-use Rattle.charge.specs.Answers.{readNumber, reading}
-use Rattle.charge.proofs.Numbers.{readable}
+use Rattle.charge.specs.Answers.{reading}
+use Rattle.theory.proofs.Refusal.{readable}
 use Rattle.rewriting.proofs.Standing.{number-is, standing}
 use Rattle.work.specs.Work.{rankOf}
 

@@ -10,9 +10,9 @@ use Rattle.theory.specs.Lists.{padded}
 use Rattle.theory.proofs.Cases.{by-name}
 use Rattle.theory.proofs.Padding.{getD-any, map-set, padded-none, padded-snoc}
 use Rattle.permutation.specs.declared.answers.Permutation.{Permutation}
-use Rattle.charge.specs.Answers.{readNumber}
+use Rattle.theory.specs.Levels.{readNumber}
 use Rattle.charge.specs.declared.answers.Pushes.{Pushes}
-use Rattle.charge.proofs.Numbers.{readable}
+use Rattle.theory.proofs.Refusal.{readable}
 use Rattle.sheet.specs.Sheet.{Contents}
 use Rattle.sheet.specs.Claims.{Each, Valid}
 use Rattle.sheet.specs.Held.{groupOf, groupsOf, noEntry, heldOf, levelsOf, groupsIn, contentsOf}

@@ -1,5 +1,6 @@
 -- The outcome of a sheet in memory, and what `work_sheet` answers for all inputs. Assumes nothing.
 use lib.ListN.{length}
+use Rattle.charge.specs.Answers.{noPushes}
 use Rattle.charge.specs.declared.answers.Pushes.{Pushes}
 use Rattle.sheet.specs.Bytes.{Got, fault, got, numberOf}
 use Rattle.sheet.specs.Sheet.{Contents}
@@ -11,7 +12,7 @@ use Rattle.work.specs.declared.answers.Worked.{Worked}
 
 -- what stands past the last answer
 abbrev pub noAnswer : Pushes
-noAnswer = record { number = 0; pushes = 0 }
+noAnswer = noPushes 0
 
 -- what working through a sheet gives, in rows filled from the front
 unfoldable pub outcomeOf : Contents → Outcome

@@ -10,6 +10,7 @@ ghost use Rattle.work.specs.Answers.{noAnswer, outcomeOf};
 ghost use Rattle.work.specs.Acting.{acted};
 use super::answers::Outcome;
 use charge::answers::Pushes;
+use charge::answers::no_pushes;
 use charge::count_up::count_up;
 use charge::read::read;
 use permutation::answers::Permutation;
@@ -84,10 +85,7 @@ fn ranks_of(groups: Groups) -> [u64; 64]
 fn no_answers() -> [Pushes; 1000]
     ensures { λ r. ⌜ r ≡ replicate 1000 noAnswer ⌝ }
 {
-    let none = Pushes {
-        number: 0,
-        pushes: 0,
-    };
+    let none = no_pushes(0);
     [none; 1000]
 }
 

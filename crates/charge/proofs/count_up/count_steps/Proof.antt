@@ -2,7 +2,7 @@
 use Prim.Native.Nat.{_-_}
 use native.Mathlib.Omega.{arith}
 use borrow.Author.Needs.{needs}
-use Rattle.charge.proofs.Pushing.{StandsAt}
+use Rattle.charge.proofs.Pushing.{PlacedCell}
 use Rattle.charge.proofs.Counting.{Counting, start, end, long, place-bounds, next-cell, step}
 use Rattle.charge.proofs.count_up.count_steps.Statement.{statement}
 use Rattle.charge.proofs.count_up.count_steps.Tie as tie
@@ -16,7 +16,7 @@ abbrev μ-loop : tie.MeasureT-loop
 -- the cell that a turn pushes
 cell : (c : tie.After-wide Inv-loop μ-loop)
     → let turn = c .before .before .before .before .before .before .before in
-    StandsAt (turn .loop .levels) (c .before .before .before .before .next-place .result) (c .wide .result)
+    PlacedCell (turn .loop .levels) (c .before .before .before .before .next-place .result) (c .wide .result)
 cell c =
     next-cell (c .before .before .before .before .before .before .before .loop .inv) (c .before .before .before .before .next-place .ensures)
     (c .before .before .push-row .ensures) (c .wide .ensures)

@@ -1,11 +1,13 @@
 -- `charge::count_up::count_up` meets its contract: the call is judged, and where it is done the steps are. Assumes nothing.
-use mathlib.Core.Path.{refl, ap, _∙_}
+use mathlib.Core.Path.{refl, ap}
 use native.Mathlib.Omega.{arith}
 use borrow.Author.Needs.{needs}
+use Rattle.theory.specs.CountUp.{countUp, callLevels}
+use Rattle.charge.specs.Answers.{counted}
 use Rattle.charge.specs.Counting.{callJudged}
 use Rattle.charge.specs.declared.judge.Call.{Call}
 use Rattle.charge.proofs.Sorting.{sorted-row}
-use Rattle.charge.proofs.Numbers.{Granted, judged-granted, call-refused, call-done}
+use Rattle.charge.proofs.Numbers.{Granted, judged-granted, pushes-refused, pushes-done}
 use Rattle.charge.proofs.count_up.count_up.Statement.{statement}
 use Rattle.charge.proofs.count_up.count_up.Tie as tie
 
@@ -21,9 +23,16 @@ judge-call-requires c κs = search needs
 same-length : tie.Need-same-length
 same-length c = search needs
 
+no-pushes-requires : tie.Need-no-pushes-requires
+no-pushes-requires c κs = search needs
+
 returns : tie.Need-returns
-unfolding callJudged
-returns c = call-refused _ _ (ap (λ (a : Call). a .number) (c .before .judge-call .ensures)) (c .if1 .taken)
+unfolding callJudged counted callLevels
+returns c =
+    let at = c .before .before in
+    let a = at .before .before .before .args in
+    pushes-refused (a .k) (a .levels .now) (countUp (a .k) (a .levels .now)) (c .no-pushes .ensures)
+    (ap (λ (a : Call). a .number) (at .judge-call .ensures)) (c .before .if1 .taken)
 
 sort-cells-requires : tie.Need-sort-cells-requires
 sort-cells-requires c κs = (call (c .before .before) .faultless .many, refl)
@@ -46,20 +55,28 @@ count-steps-requires c κs =
 same-length-2 : tie.Need-same-length-2
 same-length-2 c = search needs
 
+done-pushes-requires : tie.Need-done-pushes-requires
+done-pushes-requires c κs = search needs
+
 returns-2 : tie.Need-returns-2
+unfolding counted callLevels
 returns-2 c =
-    let answer = call-done _ _ (call (c .before .before .before .before .before .before .before .before) .number) in
-    (answer .0, c .before .before .count-steps .ensures ∙ answer .1)
+    let past = c .before .before .before .before .before .before .before .before .before in
+    let a = past .before .before .before .before .args in
+    pushes-done (a .k) (a .levels .now) (countUp (a .k) (a .levels .now)) (c .done-pushes .ensures) (call past .number)
+    (c .before .before .before .count-steps .ensures)
 
 pub count-up-spec : {M : Type 1} → statement M
 count-up-spec =
     tie.close
     (tie.spec
     judge-call-requires
+    no-pushes-requires
     same-length
     returns
     sort-cells-requires
     cast-count-steps
     count-steps-requires
+    done-pushes-requires
     same-length-2
     returns-2)

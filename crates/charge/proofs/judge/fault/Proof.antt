@@ -1,29 +1,38 @@
 -- `charge::judge::fault` meets its contract: each test decides the number. Assumes nothing.
-use mathlib.Core.Path.{sym, _∙_}
-use native.Mathlib.Omega.{arith}
+use mathlib.Core.Path.{_≡_, sym, _∙_}
+use mathlib.Core.Bool.{cond}
 use borrow.Author.Needs.{needs}
-use Rattle.charge.proofs.Numbers.{read-few, read-many, read-tie, read-done}
+use lib.ListN.{length}
+use Rattle.theory.specs.Reasons.{done, tie}
+use Rattle.theory.specs.Refusal.{sizeOf}
+use Rattle.theory.specs.Levels.{tied, readNumber}
+use Rattle.theory.proofs.Refusal.{orElse-refused}
 use Rattle.charge.proofs.judge.fault.Statement.{statement}
 use Rattle.charge.proofs.judge.fault.Tie as tie
 
-returns : tie.Need-returns
-returns c = read-few _ (c .if1 .taken)
+size-of-requires : tie.Need-size-of-requires
+size-of-requires c κs = search needs
 
-returns-2 : tie.Need-returns-2
-returns-2 c = read-many _ (c .before .if1 .left) (omega arith)
+returns : tie.Need-returns
+unfolding readNumber
+returns c =
+    let L = c .before .before .before .args .levels .now in
+    orElse-refused (sizeOf (length L)) (cond (tied L) tie done) (c .before .size-of .ensures) (c .if1 .taken)
+
+-- past the first test the size is right
+sized : (c : tie.Else1) → sizeOf (length (c .before .before .before .args .levels .now)) ≡ 0
+sized c = sym (c .before .size-of .ensures) ∙ c .if1 .left
 
 tied-requires : tie.Need-tied-requires
 tied-requires c κs = search needs
 
-returns-3 : tie.Need-returns-3
-returns-3 c = read-tie _ (c .before .before .before .if1 .left) (omega arith) (sym (c .before .tied .ensures) ∙ c .if3 .taken)
+returns-2 : tie.Need-returns-2
+unfolding readNumber
+returns-2 c = rw (sized (c .before .before), sym (c .before .tied .ensures) ∙ c .if2 .taken)
 
-returns-4 : tie.Need-returns-4
-returns-4 c = sym (read-done (record {
-  few = c .before .before .before .if1 .left;
-  many = omega arith;
-  untied = sym (c .before .tied .ensures) ∙ c .if3 .left;
-}))
+returns-3 : tie.Need-returns-3
+unfolding readNumber
+returns-3 c = rw (sized (c .before .before), sym (c .before .tied .ensures) ∙ c .if2 .left)
 
 pub fault-spec : {M : Type 1} → statement M
-fault-spec = tie.close (tie.spec returns returns-2 tied-requires returns-3 returns-4)
+fault-spec = tie.close (tie.spec size-of-requires returns tied-requires returns-2 returns-3)

@@ -1,20 +1,33 @@
 -- `charge::judge::judge_call` meets its contract: each test decides the number. Assumes nothing.
-use mathlib.Core.Path.{refl, sym, _∙_}
+use mathlib.Core.Path.{_≡_, sym, ap, _∙_}
+use Prim.Native.Nat.{ℕ}
 use native.Mathlib.Omega.{arith}
 use borrow.Author.Needs.{needs}
-use borrow.Author.Tests.{eqb-false}
-use Rattle.charge.proofs.Numbers.{Readable, readable, fault-call, call-ceiling, judged-refused, judged-done}
+use Rattle.theory.specs.Levels.{highest, readNumber}
+use Rattle.theory.specs.CountUp.{ceilingOf, callNumber}
+use Rattle.theory.proofs.Refusal.{refused, answered, orElse-refused, ceiling-refused, ceiling-done}
+use Rattle.charge.specs.Counting.{callJudged}
+use Rattle.charge.specs.declared.judge.Call.{Call}
 use Rattle.charge.proofs.judge.judge_call.Statement.{statement}
 use Rattle.charge.proofs.judge.judge_call.Tie as tie
 
-faultless : (c : tie.Else1) → Readable (c .before .before .before .args .levels .now)
-faultless c = readable (sym (c .before .fault .ensures) ∙ c .if1 .left)
+-- past the first test the levels have a permutation
+faultless : (c : tie.Else1) → readNumber (c .before .before .before .args .levels .now) ≡ 0
+faultless c = sym (c .before .fault .ensures) ∙ c .if1 .left
+
+-- the answer by its number
+abbrev call : ℕ → ℕ → Call
+call number top = record { number = number; top = top }
 
 fault-requires : tie.Need-fault-requires
 fault-requires c κs = search needs
 
 returns : tie.Need-returns
-returns c = judged-refused _ _ (fault-call _ (c .before .fault .ensures) (c .if1 .taken) _) (c .if1 .taken)
+unfolding callJudged callNumber
+returns c =
+    let a = c .before .before .before .args in
+    let L = a .levels .now in
+    refused call (highest L) 0 (orElse-refused (readNumber L) (ceilingOf L (a .k)) (c .before .fault .ensures) (c .if1 .taken)) (c .if1 .taken)
 
 highest-requires : tie.Need-highest-requires
 highest-requires c κs = search needs
@@ -26,14 +39,18 @@ sub-if2 : tie.Need-sub-if2
 sub-if2 c = search needs
 
 returns-2 : tie.Need-returns-2
+unfolding callJudged callNumber
 returns-2 c =
-    judged-refused _ _ (call-ceiling _ _ (faultless (c .before .before)) (omega (arith, c .if2 .taken, c .before .highest .ensures)))
-    (eqb-false 6 0 refl)
+    let a = c .before .before .before .before .before .args in
+    let past = ceiling-refused (a .levels .now) (a .k) (omega (arith, c .if2 .taken, c .before .highest .ensures)) in
+    refused call (highest (a .levels .now)) 0 (rw (faultless (c .before .before)) past) (λ z. omega arith)
 
 returns-3 : tie.Need-returns-3
+unfolding callJudged callNumber
 returns-3 c =
-    judged-done _ _ (faultless (c .before .before)) (omega (arith, c .if2 .left, c .before .highest .ok, c .before .highest .ensures))
-    (c .before .highest .ensures)
+    let a = c .before .before .before .before .before .args in
+    let room = ceiling-done (a .levels .now) (a .k) (omega (arith, c .if2 .left, c .before .highest .ok, c .before .highest .ensures)) in
+    ap (call 0) (c .before .highest .ensures) ∙ answered call (highest (a .levels .now)) 0 (rw (faultless (c .before .before)) room)
 
 pub judge-call-spec : {M : Type 1} → statement M
 judge-call-spec =

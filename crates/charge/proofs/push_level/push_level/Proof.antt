@@ -1,59 +1,92 @@
 -- `charge::push_level::push_level` meets its contract: each test decides the number, and past them the sorted row has the cell. Assumes nothing.
-use mathlib.Core.Path.{refl, sym, _∙_}
+use mathlib.Core.Path.{_≡_, refl, sym, _∙_}
+use mathlib.Core.List.{List}
+use Prim.Native.Nat.{ℕ, _≤_}
 use native.Mathlib.Omega.{arith}
 use borrow.Author.Needs.{needs}
-use borrow.Author.Tests.{eqb-false}
+use lib.ListN.{length}
+use Rattle.theory.specs.Permutation.{cellAt}
+use Rattle.theory.specs.Levels.{permutationOf, pushLevel}
+use Rattle.theory.proofs.Refusal.{Readable, readable}
+use Rattle.charge.specs.Answers.{noPushes, placeNumber, placePushes, placeLevels}
+use Rattle.charge.specs.declared.answers.Pushes.{Pushes}
 use Rattle.charge.proofs.Sorting.{sorted-row}
-use Rattle.charge.proofs.Numbers.{Readable, readable, fault-place, place-refused, place-pushed}
-use Rattle.charge.proofs.Numbers.{place-low, place-high, place-ceiling, place-done}
-use Rattle.charge.proofs.Pushing.{StandsAt, stands-at, stands-push}
+use Rattle.charge.proofs.Numbers.{pushes-refused, pushes-done, place-fault, place-low, place-high, place-ceiling, place-done}
+use Rattle.charge.proofs.Pushing.{PlacedCell, placed-cell, placed-push}
 use Rattle.charge.proofs.push_level.push_level.Statement.{statement}
 use Rattle.charge.proofs.push_level.push_level.Tie as tie
 
+-- past the first test the levels have a permutation, and past the third there is the place
 faultless : (c : tie.Else1) → Readable (c .before .before .before .before .args .levels .now)
 faultless c = readable (sym (c .before .fault .ensures) ∙ c .if1 .left)
 
--- the cell at the place
+placed : (c : tie.Else3) → let a = c .before .before .before .before .before .before .args in (2 ≤ a .place) × (a .place ≤ length (a .levels .now))
+placed c = (c .before .if2 .left, c .if3 .left)
+
+-- the cell there
 cell : (c : tie.After-wide)
-    → let entry = c .before .before .before .before .before .before .before .before .before .before .before .before .before in
-    StandsAt (entry .args .levels .now) (entry .args .place) (c .wide .result)
+    → let a = c .before .before .before .before .before .before .before .before .before .before .before .before .before .args in
+    PlacedCell (a .levels .now) (a .place) (c .wide .result)
 cell c =
-    let placed = c .before .before .before .before .before .before .before in
-    let r = faultless (placed .before .before) in
-    stands-at _ _ (omega arith) (placed .if3 .left) (sorted-row _ (r .many) (c .before .sort-cells .ensures)) (c .wide .ensures)
+    let past = c .before .before .before .before .before .before .before in
+    let b = placed past in
+    let r = faultless (past .before .before) in
+    placed-cell _ _ (omega arith) (b .1) (sorted-row _ (r .many) (c .before .sort-cells .ensures)) (c .wide .ensures)
+
+-- a refusal
+refuses : (L : List ℕ) (i : ℕ) {a : Pushes} {number : ℕ} → a ≡ noPushes number → number ≡ placeNumber L i → (number ≡ 0 → ⊥)
+    → (a ≡ placePushes L i) × (L ≡ placeLevels L i)
+unfolding placePushes placeLevels
+refuses L i = pushes-refused 1 L (pushLevel (cellAt i (permutationOf L)) L)
 
 fault-requires : tie.Need-fault-requires
 fault-requires c κs = search needs
+
+no-pushes-requires : tie.Need-no-pushes-requires
+no-pushes-requires c κs = search needs
 
 same-length : tie.Need-same-length
 same-length c = search needs
 
 returns : tie.Need-returns
-returns c = place-refused _ _ (fault-place _ (c .before .fault .ensures) (c .if1 .taken) _) (c .if1 .taken)
+returns c =
+    let ne = c .before .if1 .taken in
+    refuses _ _ (c .no-pushes .ensures) (place-fault _ _ (c .before .before .fault .ensures) ne) ne
+
+no-pushes-requires-2 : tie.Need-no-pushes-requires-2
+no-pushes-requires-2 c κs = search needs
 
 same-length-2 : tie.Need-same-length-2
 same-length-2 c = search needs
 
 returns-2 : tie.Need-returns-2
-returns-2 c = place-refused _ _ (place-low _ _ (faultless (c .before)) (c .if2 .taken)) (eqb-false 5 0 refl)
+returns-2 c = refuses _ _ (c .no-pushes2 .ensures) (place-low _ _ (faultless (c .before .before)) (c .before .if2 .taken)) (λ z. omega arith)
+
+no-pushes-requires-3 : tie.Need-no-pushes-requires-3
+no-pushes-requires-3 c κs = search needs
 
 same-length-3 : tie.Need-same-length-3
 same-length-3 c = search needs
 
 returns-3 : tie.Need-returns-3
-returns-3 c = place-refused _ _ (place-high _ _ (faultless (c .before .before)) (c .before .if2 .left) (c .if3 .taken)) (eqb-false 5 0 refl)
+returns-3 c =
+    refuses _ _ (c .no-pushes3 .ensures)
+    (place-high _ _ (faultless (c .before .before .before)) (c .before .before .if2 .left) (c .before .if3 .taken)) (λ z. omega arith)
 
 highest-requires : tie.Need-highest-requires
 highest-requires c κs = search needs
+
+no-pushes-requires-4 : tie.Need-no-pushes-requires-4
+no-pushes-requires-4 c κs = search needs
 
 same-length-4 : tie.Need-same-length-4
 same-length-4 c = search needs
 
 returns-4 : tie.Need-returns-4
 returns-4 c =
-    let placed = c .before .before .before in
-    let r = faultless (placed .before .before) in
-    place-refused _ _ (place-ceiling _ _ r (placed .before .if2 .left) (placed .if3 .left) (omega arith)) (eqb-false 6 0 refl)
+    let past = c .before .before .before .before in
+    let b = placed past in
+    refuses _ _ (c .no-pushes4 .ensures) (place-ceiling _ _ (faultless (past .before .before)) (b .0) (b .1) (omega arith)) (λ z. omega arith)
 
 sort-cells-requires : tie.Need-sort-cells-requires
 sort-cells-requires c κs = (faultless (c .before .before .before .before .before .before .before) .many, refl)
@@ -79,29 +112,38 @@ mul-levels c = omega (arith, cell c .high)
 slice-write-levels : tie.Need-slice-write-levels
 slice-write-levels c = omega (arith, cell c .low, cell c .high)
 
+done-pushes-requires : tie.Need-done-pushes-requires
+done-pushes-requires c κs = search needs
+
 same-length-5 : tie.Need-same-length-5
 same-length-5 c = search needs
 
 returns-5 : tie.Need-returns-5
+unfolding placePushes placeLevels
 returns-5 c =
-    let placed = c .before .before .before .before .before .before .before in
-    let r = faultless (placed .before .before) in
-    let top = c .before .before .before .before .before .highest in
-    let answer = place-pushed _ _ (place-done _ _ r (placed .before .if2 .left) (placed .if3 .left) (omega (arith, top .ok, top .ensures))) in
-    (answer .0, stands-push (cell c) (top .ensures) ∙ answer .1)
+    let top = c .before .before .before .before .before .before .highest in
+    let past = c .before .before .before .before .before .before .before .before in
+    let a = past .before .before .before .before .before .before .args in
+    let b = placed past in
+    pushes-done 1 (a .levels .now) (pushLevel (cellAt (a .place) (permutationOf (a .levels .now))) (a .levels .now)) (c .done-pushes .ensures)
+    (place-done _ _ (faultless (past .before .before)) (b .0) (b .1) (omega (arith, top .ok, top .ensures))) (placed-push (cell (c .before)) (top .ensures))
 
 pub push-level-spec : {M : Type 1} → statement M
 push-level-spec =
     tie.close
     (tie.spec
     fault-requires
+    no-pushes-requires
     same-length
     returns
+    no-pushes-requires-2
     same-length-2
     returns-2
+    no-pushes-requires-3
     same-length-3
     returns-3
     highest-requires
+    no-pushes-requires-4
     same-length-4
     returns-4
     sort-cells-requires
@@ -112,5 +154,6 @@ push-level-spec =
     sub-levels
     mul-levels
     slice-write-levels
+    done-pushes-requires
     same-length-5
     returns-5)

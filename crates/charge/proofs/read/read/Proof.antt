@@ -1,8 +1,13 @@
 -- `charge::read::read` meets its contract: a fault is passed on, and otherwise a row of zeros is sorted. Assumes nothing.
 use mathlib.Core.Path.{refl, sym, _∙_}
+use mathlib.Core.List.{[]}
 use borrow.Author.Needs.{needs}
+use Rattle.theory.specs.Levels.{permutationOf}
+use Rattle.permutation.proofs.Answering.{permutedWith}
+use Rattle.charge.specs.Answers.{reading}
 use Rattle.charge.proofs.Sorting.{sorted-row}
-use Rattle.charge.proofs.Numbers.{Readable, readable, read-sorted, fault-read}
+use Rattle.theory.proofs.Refusal.{refused, Readable, readable}
+use Rattle.charge.proofs.Numbers.{read-sorted}
 use Rattle.charge.proofs.read.read.Statement.{statement}
 use Rattle.charge.proofs.read.read.Tie as tie
 
@@ -12,11 +17,14 @@ faultless c = readable (sym (c .before .fault .ensures) ∙ c .if1 .left)
 fault-requires : tie.Need-fault-requires
 fault-requires c κs = search needs
 
-refuse-requires : tie.Need-refuse-requires
-refuse-requires c κs = search needs
+no-permutation-requires : tie.Need-no-permutation-requires
+no-permutation-requires c κs = search needs
 
 returns : tie.Need-returns
-returns c = c .refuse .ensures ∙ fault-read _ (c .before .before .fault .ensures) (c .before .if1 .taken)
+unfolding reading
+returns c =
+    let at = c .before .before in
+    c .no-permutation .ensures ∙ refused permutedWith (permutationOf (at .before .before .args .levels .now)) [] (at .fault .ensures) (c .before .if1 .taken)
 
 sort-cells-requires : tie.Need-sort-cells-requires
 sort-cells-requires c κs = (faultless (c .before) .many, refl)
@@ -28,4 +36,4 @@ returns-2 c =
 
 pub read-spec : {M : Type 1} → statement M
 read-spec =
-    tie.close (tie.spec fault-requires refuse-requires returns sort-cells-requires returns-2)
+    tie.close (tie.spec fault-requires no-permutation-requires returns sort-cells-requires returns-2)

@@ -13,34 +13,34 @@ use Rattle.permutation.proofs.push.push.Tie as tie
 check-requires : tie.Need-check-requires
 check-requires c κs = search needs
 
-refuse-requires : tie.Need-refuse-requires
-refuse-requires c κs = search needs
+no-permutation-requires : tie.Need-no-permutation-requires
+no-permutation-requires c κs = search needs
 
 returns : tie.Need-returns
 returns c =
     let at = c .before .before in
-    c .refuse .ensures
-    ∙ push-fault (at .before .args .permutation) (at .before .args .place) _ (check-number _ (at .check .ensures)) (c .before .if1 .taken)
+    c .no-permutation .ensures
+    ∙ push-fault (at .before .args .permutation) (at .before .args .place) (check-number _ (at .check .ensures)) (c .before .if1 .taken)
 
 -- past the first test, the record is a permutation's
 sound-now : (c : tie.Else1) → Sound (c .before .before .args .permutation)
 sound-now c = check-sound _ (c .before .check .ensures) (search needs) (c .if1 .left)
 
-refuse-requires-2 : tie.Need-refuse-requires-2
-refuse-requires-2 c κs = search needs
+no-permutation-requires-2 : tie.Need-no-permutation-requires-2
+no-permutation-requires-2 c κs = search needs
 
 returns-2 : tie.Need-returns-2
 returns-2 c =
     let at = c .before .before in
-    c .refuse2 .ensures ∙ push-outside (at .before .before .args .permutation) (at .before .before .args .place) (sound-now at .fault) (inl (c .before .if2 .taken))
+    c .no-permutation2 .ensures ∙ push-outside (at .before .before .args .permutation) (at .before .before .args .place) (sound-now at .fault) (inl (c .before .if2 .taken))
 
-refuse-requires-3 : tie.Need-refuse-requires-3
-refuse-requires-3 c κs = search needs
+no-permutation-requires-3 : tie.Need-no-permutation-requires-3
+no-permutation-requires-3 c κs = search needs
 
 returns-3 : tie.Need-returns-3
 returns-3 c =
     let at = c .before .before .before in
-    c .refuse3 .ensures
+    c .no-permutation3 .ensures
     ∙ push-outside (at .before .before .args .permutation) (at .before .before .args .place) (sound-now at .fault) (inr (c .before .before .if2 .left, c .before .if3 .taken))
 
 pushed-row-requires : tie.Need-pushed-row-requires
@@ -60,11 +60,11 @@ push-spec =
     tie.close
     (tie.spec
     check-requires
-    refuse-requires
+    no-permutation-requires
     returns
-    refuse-requires-2
+    no-permutation-requires-2
     returns-2
-    refuse-requires-3
+    no-permutation-requires-3
     returns-3
     pushed-row-requires
     returns-4)

@@ -4,67 +4,65 @@ use mathlib.Core.Bool.{false, and-false}
 use native.Mathlib.Omega.{arith}
 use borrow.Author.Needs.{needs}
 use lib.ListN.{length, drop}
+use Rattle.theory.specs.Refusal.{sizeOf}
+use Rattle.theory.proofs.Refusal.{size-range}
 use Rattle.permutation.specs.Records.{listOf, onceEach, allZero}
-use Rattle.permutation.proofs.Records.{fault-small, fault-large, fault-muddle}
+use Rattle.permutation.proofs.Records.{fault-size, fault-muddle}
 use Rattle.permutation.proofs.Checking.{check-refused, check-names}
 use Rattle.permutation.proofs.validity.check.Statement.{statement}
 use Rattle.permutation.proofs.validity.check.Tie as tie
+
+size-of-requires : tie.Need-size-of-requires
+size-of-requires c κs = search needs
 
 without-spots-requires : tie.Need-without-spots-requires
 without-spots-requires c κs = search needs
 
 returns : tie.Need-returns
 returns c =
-    let p = c .before .before .before .args .permutation in
-    c .without-spots .ensures ∙ check-refused p (fault-small p (c .before .if1 .taken)) (λ z. omega arith)
+    let at = c .before .before in
+    c .without-spots .ensures ∙ check-refused _ (fault-size _ (at .size-of .ensures) (c .before .if1 .taken)) (c .before .if1 .taken)
 
-without-spots-requires-2 : tie.Need-without-spots-requires-2
-without-spots-requires-2 c κs = search needs
-
-returns-2 : tie.Need-returns-2
-returns-2 c =
-    let p = c .before .before .before .before .args .permutation in
-    c .without-spots2 .ensures ∙ check-refused p (fault-large p (c .before .if2 .taken)) (λ z. omega arith)
+-- past the first test n is in its range
+sized : (c : tie.Else1) → sizeOf (c .before .before .before .args .permutation .n) ≡ 0
+sized c = sym (c .before .size-of .ensures) ∙ c .if1 .left
 
 all-zero-requires : tie.Need-all-zero-requires
 all-zero-requires c κs =
     let long : length (c .before .before .before .before .args .permutation .cells) ≡ 20 = search needs in
-    (c .before .if2 .left, long)
+    (size-range _ (sized (c .before)) .1, long)
 
 spots-of-requires : tie.Need-spots-of-requires
 spots-of-requires c κs =
-    let long : length (c .before .before .before .before .before .before .before .args .permutation .cells) ≡ 20 = search needs in
-    (omega arith, long)
+    let past = c .before .before .before .before in
+    let long : length (past .before .before .before .args .permutation .cells) ≡ 20 = search needs in
+    (size-range _ (sized past) .1, long)
+
+returns-2 : tie.Need-returns-2
+returns-2 c =
+    let zeros = c .before .before .before in
+    c .spots-of .ensures ∙ check-names _ (sized (zeros .before .before)) (sym (zeros .all-zero .ensures) ∙ c .before .before .if2 .taken)
+
+without-spots-requires-2 : tie.Need-without-spots-requires-2
+without-spots-requires-2 c κs = search needs
 
 returns-3 : tie.Need-returns-3
 returns-3 c =
-    let zeros = c .before .before .before in
-    let size-is = zeros .before .before in
-    let p = size-is .before .before .before .args .permutation in
-    c .spots-of .ensures ∙ check-names p (size-is .before .if1 .left) (size-is .if2 .left) (sym (zeros .all-zero .ensures) ∙ c .before .before .if3 .taken)
-
-without-spots-requires-3 : tie.Need-without-spots-requires-3
-without-spots-requires-3 c κs = search needs
-
-returns-4 : tie.Need-returns-4
-returns-4 c =
     let zeros = c .before .before in
-    let size-is = zeros .before .before in
-    let p = size-is .before .before .before .args .permutation in
-    let more : allZero (drop (p .n) (p .cells)) ≡ false = sym (zeros .all-zero .ensures) ∙ c .before .if3 .left in
-    c .without-spots3 .ensures
-    ∙ check-refused p (fault-muddle p (size-is .before .if1 .left) (size-is .if2 .left) (rw more (and-false (onceEach (p .n) (listOf p))))) (λ z. omega arith)
+    let p = zeros .before .before .before .before .before .args .permutation in
+    let more : allZero (drop (p .n) (p .cells)) ≡ false = sym (zeros .all-zero .ensures) ∙ c .before .if2 .left in
+    c .without-spots2 .ensures
+    ∙ check-refused p (fault-muddle p (sized (zeros .before .before)) (rw more (and-false (onceEach (p .n) (listOf p))))) (λ z. omega arith)
 
 pub check-spec : {M : Type 1} → statement M
 check-spec =
     tie.close
     (tie.spec
+    size-of-requires
     without-spots-requires
     returns
-    without-spots-requires-2
-    returns-2
     all-zero-requires
     spots-of-requires
-    returns-3
-    without-spots-requires-3
-    returns-4)
+    returns-2
+    without-spots-requires-2
+    returns-3)

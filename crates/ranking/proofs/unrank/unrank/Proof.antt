@@ -1,72 +1,79 @@
 -- `ranking::unrank::unrank` meets its contract: the row of zeros is filled with the cells by spots, which are those of the rank. Assumes nothing.
-use mathlib.Core.Path.{_≡_, ap, _∙_}
+use mathlib.Core.Path.{_≡_, sym, ap, _∙_}
+use mathlib.Core.List.{[]}
 use native.Mathlib.Omega.{arith}
 use borrow.Author.Needs.{needs}
-use borrow.Author.Tests.{le-leb, lt-leb, lt-ltb, le-ltb}
+use borrow.Author.Tests.{lt-ltb, le-ltb}
+use Rattle.theory.specs.Refusal.{sizeOf}
 use Rattle.theory.specs.Factorial.{factorial}
-use Rattle.ranking.specs.Answers.{unrankNumber, unranked}
+use Rattle.theory.specs.Unrank.{unrank}
+use Rattle.theory.proofs.Refusal.{refused, answered, orElse-refused, size-range}
 use Rattle.permutation.specs.declared.answers.Permutation.{Permutation}
+use Rattle.permutation.proofs.Answering.{permutedWith}
+use Rattle.ranking.specs.Answers.{unrankNumber, unranked}
 use Rattle.ranking.proofs.Table.{within-is}
 use Rattle.ranking.proofs.Unranking.{unrank-record}
 use Rattle.ranking.proofs.unrank.unrank.Statement.{statement}
 use Rattle.ranking.proofs.unrank.unrank.Tie as tie
 
-refuse-requires : tie.Need-refuse-requires
-refuse-requires c κs = search needs
+size-of-requires : tie.Need-size-of-requires
+size-of-requires c κs = search needs
+
+no-permutation-requires : tie.Need-no-permutation-requires
+no-permutation-requires c κs = search needs
 
 returns : tie.Need-returns
 unfolding unranked unrankNumber
 returns c =
-    let n = c .before .before .args .n in
-    c .refuse .ensures ∙ rw (lt-leb 2 n (c .before .if1 .taken))
+    let at = c .before .before in
+    c .no-permutation .ensures
+    ∙ refused permutedWith (unrank (at .before .args .n) (at .before .args .rank)) []
+    (orElse-refused (sizeOf (at .before .args .n)) _ (at .size-of .ensures) (c .before .if1 .taken)) (c .before .if1 .taken)
 
-refuse-requires-2 : tie.Need-refuse-requires-2
-refuse-requires-2 c κs = search needs
-
-returns-2 : tie.Need-returns-2
-unfolding unranked unrankNumber
-returns-2 c =
-    let n = c .before .before .before .args .n in
-    c .refuse2 .ensures ∙ rw (le-leb 2 n (omega arith), lt-leb n 20 (omega arith))
+-- past the first test n is in its range
+sized : (c : tie.Else1) → sizeOf (c .before .before .args .n) ≡ 0
+sized c = sym (c .before .size-of .ensures) ∙ c .if1 .left
 
 factorial-requires : tie.Need-factorial-requires
 factorial-requires c κs = search needs
 
 -- the limit that the rank is compared with
 limit : (c : tie.After-factorial) → c .factorial .result ≡ factorial (c .before .before .before .args .n)
-limit c = c .factorial .ensures ∙ within-is (c .before .before .before .args .n) (c .before .if2 .left)
+limit c = c .factorial .ensures ∙ within-is (c .before .before .before .args .n) (size-range _ (sized (c .before)) .1)
 
-refuse-requires-3 : tie.Need-refuse-requires-3
-refuse-requires-3 c κs = search needs
+no-permutation-requires-2 : tie.Need-no-permutation-requires-2
+no-permutation-requires-2 c κs = search needs
+
+returns-2 : tie.Need-returns-2
+unfolding unranked unrankNumber
+returns-2 c =
+    let at = c .before .before in
+    let a = at .before .before .before .args in
+    let high = le-ltb (a .rank) (factorial (a .n)) (omega (arith, limit at, c .before .if2 .taken)) in
+    c .no-permutation2 .ensures ∙ refused permutedWith (unrank (a .n) (a .rank)) [] (rw (sized (at .before), high)) (λ z. omega arith)
+
+filled-row-requires : tie.Need-filled-row-requires
+filled-row-requires c κs = size-range _ (sized (c .before .before)) .1
 
 returns-3 : tie.Need-returns-3
 unfolding unranked unrankNumber
 returns-3 c =
-    let a = c .before .before .before .before .before .args in
-    let high = le-ltb (a .rank) (factorial (a .n)) (omega (arith, limit (c .before .before))) in
-    c .refuse3 .ensures ∙ rw (le-leb 2 (a .n) (omega arith), le-leb (a .n) 20 (omega arith), high)
-
-filled-row-requires : tie.Need-filled-row-requires
-filled-row-requires c κs = search needs
-
-returns-4 : tie.Need-returns-4
-unfolding unranked unrankNumber
-returns-4 c =
-    let a = c .before .before .before .before .before .args in
-    let below = lt-ltb (a .rank) (factorial (a .n)) (omega (arith, limit (c .before .before))) in
-    rw (le-leb 2 (a .n) (omega arith), le-leb (a .n) 20 (omega arith), below)
-    (ap (λ (p : Permutation). record { number = 0; permutation = p }) (unrank-record (a .n) (a .rank) _ (omega arith) (c .filled-row .ensures)))
+    let at = c .before .before in
+    let a = at .before .before .before .args in
+    let below = lt-ltb (a .rank) (factorial (a .n)) (omega (arith, limit at, c .before .if2 .left)) in
+    ap (λ (p : Permutation). record { number = 0; permutation = p })
+    (unrank-record (a .n) (a .rank) _ (size-range _ (sized (at .before)) .1) (c .filled-row .ensures))
+    ∙ answered permutedWith (unrank (a .n) (a .rank)) [] (rw (sized (at .before), below))
 
 pub unrank-spec : {M : Type 1} → statement M
 unrank-spec =
     tie.close
     (tie.spec
-    refuse-requires
+    size-of-requires
+    no-permutation-requires
     returns
-    refuse-requires-2
-    returns-2
     factorial-requires
-    refuse-requires-3
-    returns-3
+    no-permutation-requires-2
+    returns-2
     filled-row-requires
-    returns-4)
+    returns-3)

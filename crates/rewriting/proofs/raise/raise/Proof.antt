@@ -1,9 +1,14 @@
 -- `rewriting::raise::raise` meets its contract: the test decides between ceiling and the pushes. Assumes nothing.
+use mathlib.Core.List.{reverse}
 use Prim.Native.Nat.{_+_, _≤_}
 use native.Mathlib.Omega.{arith}
 use borrow.Author.Needs.{needs}
+use lib.ListN.{take}
 use Rattle.theory.specs.Reasons.{maxLevel}
-use Rattle.rewriting.proofs.Raising.{raise-ceiling, raise-done}
+use Rattle.theory.specs.Levels.{pushLevels}
+use Rattle.theory.proofs.Refusal.{ceiling-refused, ceiling-done}
+use Rattle.charge.proofs.Numbers.{pushes-refused, pushes-done}
+use Rattle.rewriting.specs.Raising.{raised}
 use Rattle.rewriting.proofs.raise.raise.Statement.{statement}
 use Rattle.rewriting.proofs.raise.raise.Tie as tie
 
@@ -20,29 +25,43 @@ cast-if1 c = search needs
 sub-if1 : tie.Need-sub-if1
 sub-if1 c = search needs
 
+no-pushes-requires : tie.Need-no-pushes-requires
+no-pushes-requires c κs = search needs
+
 same-length : tie.Need-same-length
 same-length c = search needs
 
 returns : tie.Need-returns
+unfolding raised
 returns c =
-    let a = c .before .before .before .before .args in
-    raise-ceiling (a .levels .now) (a .cells .now) (a .r) (c .before .highest .ensures) (omega (arith, c .if1 .taken))
+    let at = c .before .before in
+    let a = at .before .before .before .args in
+    let L = a .levels .now in
+    pushes-refused (a .r) L (pushLevels (reverse (take (a .r) (a .cells .now))) L) (c .no-pushes .ensures)
+    (ceiling-refused L (a .r) (omega (arith, c .before .if1 .taken, at .highest .ensures))) (λ z. omega arith)
 
 push-first-requires : tie.Need-push-first-requires
 push-first-requires c κs =
     let at = c .before in
     record { pushable = at .before .before .before .before .pre; top-is = at .before .highest .ensures; room = room at }
 
-cast-pushes : tie.Need-cast-pushes
-cast-pushes c = omega (arith, c .before .before .before .before .before .before .before .before .pre .few)
+cast-done-pushes : tie.Need-cast-done-pushes
+cast-done-pushes c = omega (arith, c .before .before .before .before .before .before .before .before .pre .few)
+
+done-pushes-requires : tie.Need-done-pushes-requires
+done-pushes-requires c κs = search needs
 
 same-length-2 : tie.Need-same-length-2
 same-length-2 c = search needs
 
 returns-2 : tie.Need-returns-2
+unfolding raised
 returns-2 c =
-    let at = c .before .before .before .before in
-    raise-done _ _ _ (at .before .highest .ensures) (room at) (c .before .before .push-first .ensures)
+    let past = c .before .before .before .before .before in
+    let a = past .before .before .before .before .args in
+    let L = a .levels .now in
+    pushes-done (a .r) L (pushLevels (reverse (take (a .r) (a .cells .now))) L) (c .done-pushes .ensures)
+    (ceiling-done L (a .r) (omega (arith, past .before .highest .ensures, room past))) (c .before .before .before .push-first .ensures)
 
 pub raise-spec : {M : Type 1} → statement M
 raise-spec =
@@ -51,9 +70,11 @@ raise-spec =
     highest-requires
     cast-if1
     sub-if1
+    no-pushes-requires
     same-length
     returns
     push-first-requires
-    cast-pushes
+    cast-done-pushes
+    done-pushes-requires
     same-length-2
     returns-2)

@@ -36,11 +36,14 @@ number c =
 judge-requires : tie.Need-judge-requires
 judge-requires c κs = search needs
 
+no-pushes-requires : tie.Need-no-pushes-requires
+no-pushes-requires c κs = search needs
+
 same-length : tie.Need-same-length
 same-length c = search needs
 
 returns : tie.Need-returns
-returns c = rewrite-fault _ _ _ (c .before .judge .ensures) (c .if1 .taken)
+returns c = rewrite-fault _ _ _ (c .no-pushes .ensures) (c .before .before .judge .ensures) (c .before .if1 .taken)
 
 sort-cells-requires : tie.Need-sort-cells-requires
 sort-cells-requires c κs = (faultless (c .before .before) .readable .many, refl)
@@ -91,6 +94,7 @@ rewrite-spec =
     tie.close
     (tie.spec
     judge-requires
+    no-pushes-requires
     same-length
     returns
     sort-cells-requires

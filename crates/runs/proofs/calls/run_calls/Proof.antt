@@ -1,9 +1,10 @@
 -- `runs::calls::run_calls` meets its contract. The loop's invariant: levels, numbers and pushes are those of the calls made. Assumes nothing.
-use mathlib.Core.Path.{_≡_, subst}
+use mathlib.Core.Path.{_≡_, ap, subst}
 use Prim.Native.Nat.{ℕ, _+_, _-_, _≤_}
 use native.Mathlib.Omega.{arith}
 use lib.ListN.{length, set}
-use Rattle.runs.proofs.Calling.{Made, made-none, made-more, called-done, levels-done, numbers-done, calls-of, called-refused, levels-refused, numbers-refused, levels-length, numbers-length}
+use Rattle.charge.specs.declared.answers.Pushes.{Pushes}
+use Rattle.runs.proofs.Calling.{Made, made-none, made-more, called-done, calls-of, called-refused, levels-length, numbers-length}
 use borrow.Author.Needs.{needs}
 use Rattle.runs.proofs.calls.run_calls.Statement.{statement}
 use Rattle.runs.proofs.calls.run_calls.Tie as tie
@@ -15,14 +16,14 @@ Inv-loop levels₀ counts numbers₀ pushes₀ i₀ levels numbers pushes i =
 abbrev μ-loop : tie.MeasureT-loop
 μ-loop levels₀ counts numbers₀ pushes₀ i₀ levels numbers pushes i = length counts - i
 
+no-pushes-requires : tie.Need-no-pushes-requires Inv-loop μ-loop
+no-pushes-requires c κs = search needs
+
 returns : tie.Need-returns Inv-loop μ-loop
 returns c =
-    let a = c .before .before .before .before .args in
-    let L = a .levels .now in
-    let ks = a .counts .now in
-    let numbers = a .numbers .now in
-    let short = c .if1 .taken in
-    (called-refused L ks numbers short, (levels-refused L ks numbers short, (numbers-refused L ks numbers short, λ z. absurd (omega arith))))
+    let a = c .before .before .before .before .before .args in
+    let b = called-refused (a .levels .now) (a .counts .now) (a .numbers .now) (c .no-pushes .ensures) (c .before .if1 .taken) in
+    (b .0, (b .1 .0, (b .1 .1, λ z. absurd (omega (arith, z, ap (λ (a : Pushes). a .number) (c .no-pushes .ensures))))))
 
 loop-holds : tie.Need-loop-holds Inv-loop μ-loop
 loop-holds c =
@@ -73,17 +74,20 @@ loop-again c =
     let at = c .before .before .before .before .before .before .before in
     (omega arith, at .loop .inv .1, made c .1)
 
+done-pushes-requires : tie.Need-done-pushes-requires Inv-loop μ-loop
+done-pushes-requires c κs = search needs
+
 same-length : tie.Need-same-length Inv-loop μ-loop
-same-length c = levels-length _ _ _ (c .before .loop .inv .2)
+same-length c = levels-length _ _ _ (c .before .before .loop .inv .2)
 
 same-length-2 : tie.Need-same-length-2 Inv-loop μ-loop
 same-length-2 c =
-    let inv = c .before .loop .inv in
+    let inv = c .before .before .loop .inv in
     numbers-length _ _ _ (inv .2) (inv .0) (inv .1)
 
 returns-2 : tie.Need-returns-2 Inv-loop μ-loop
 returns-2 c =
-    let at = c .before in
+    let at = c .before .before in
     let a = at .before .before .before .before .before .args in
     let L = a .levels .now in
     let ks = a .counts .now in
@@ -91,15 +95,11 @@ returns-2 c =
     let levels = at .loop .levels in
     let numbers = at .loop .numbers in
     let pushes = at .loop .pushes in
-    let room = at .loop .inv .1 in
     let all : at .loop .i ≡ length ks = omega (arith, at .loop .inv .0) in
-    let v = subst (λ (j : ℕ). Made L ks numbers₀ j levels numbers pushes) all (at .loop .inv .2) in (
-      called-done L ks numbers₀ levels numbers pushes v room,
-      (
-        levels-done L ks numbers₀ levels numbers pushes v room,
-        (numbers-done L ks numbers₀ levels numbers pushes v room, λ z few start. calls-of L ks numbers₀ levels numbers pushes v few start),
-      ),
-    )
+    let v = subst (λ (j : ℕ). Made L ks numbers₀ j levels numbers pushes) all (at .loop .inv .2) in
+    let b = called-done L ks numbers₀ levels numbers pushes v (at .loop .inv .1) (c .done-pushes .ensures) in
+    let told = ap (λ (a : Pushes). a .pushes) (c .done-pushes .ensures) in
+    (b .0, (b .1 .0, (b .1 .1, λ z few start. rw told (calls-of L ks numbers₀ levels numbers pushes v few start))))
 
 pub run-calls-spec : {M : Type 1} → statement M
 run-calls-spec =
@@ -107,6 +107,7 @@ run-calls-spec =
     (tie.spec
     Inv-loop
     μ-loop
+    no-pushes-requires
     returns
     loop-holds
     mul-count-up
@@ -117,6 +118,7 @@ run-calls-spec =
     add-i
     loop-less
     loop-again
+    done-pushes-requires
     same-length
     same-length-2
     returns-2)

@@ -1,66 +1,68 @@
 -- `symbols::prefix::prefix` meets its contract: each test decides the number, and past them the row is the symbol's prefix. Assumes nothing.
-use mathlib.Core.Path.{_≡_, refl, _∙_}
+use mathlib.Core.Path.{_≡_, refl, sym, _∙_}
 use native.Mathlib.Omega.{arith}
 use borrow.Author.Needs.{needs}
 use lib.ListN.{getD}
+use Rattle.theory.specs.Refusal.{sizeOf}
 use Rattle.theory.specs.Factorial.{factorial}
+use Rattle.theory.proofs.Refusal.{size-range}
 use Rattle.ranking.proofs.Table.{table-at}
-use Rattle.symbols.proofs.Prefixing.{Coded, too-few, too-many, too-large, no-symbol, short, fits, named-long, named-first, led-long, coded-done}
+use Rattle.symbols.proofs.Prefixing.{Coded, prefix-refused, size-reason, too-large, no-symbol, short, fits, named-long, named-first, led-long, coded-done}
 use Rattle.symbols.proofs.prefix.prefix.Statement.{statement}
 use Rattle.symbols.proofs.prefix.prefix.Tie as tie
+
+-- past the first test n is in its range
+sized : (c : tie.Else1) → sizeOf (c .before .before .args .n) ≡ 0
+sized c = sym (c .before .size-of .ensures) ∙ c .if1 .left
 
 -- the largest m
 limit : (c : tie.After-factorial-table)
     → let n = c .before .before .before .args .n in getD (c .factorial-table .result) n 0 ≡ factorial n
-limit c = table-at (c .factorial-table .ensures) (c .before .before .before .args .n) (c .before .if2 .left)
+limit c = table-at (c .factorial-table .ensures) (c .before .before .before .args .n) (size-range _ (sized (c .before)) .1)
 
 -- past the tests
-codes : (c : tie.Else4) → let a = c .before .before .before .before .before .args in Coded (a .n) (a .m) (a .symbol)
+codes : (c : tie.Else3) → let a = c .before .before .before .before .before .args in Coded (a .n) (a .m) (a .symbol)
 codes c =
-    let tabled = c .before .before in record {
-      few = tabled .before .before .if1 .left;
-      many = tabled .before .if2 .left;
-      most = omega (arith, c .before .if3 .left, limit tabled);
-      below = omega (arith, c .if4 .left);
-    }
+    let tabled = c .before .before in
+    let range = size-range _ (sized (tabled .before)) in
+    record { few = range .0; many = range .1; most = omega (arith, c .before .if2 .left, limit tabled); below = omega (arith, c .if3 .left) }
+
+size-of-requires : tie.Need-size-of-requires
+size-of-requires c κs = search needs
 
 no-prefix-requires : tie.Need-no-prefix-requires
 no-prefix-requires c κs = search needs
 
 returns : tie.Need-returns
-returns c = c .no-prefix .ensures ∙ too-few _ _ _ (c .before .if1 .taken)
+returns c =
+    let ne = c .before .if1 .taken in
+    c .no-prefix .ensures ∙ prefix-refused _ _ _ (size-reason _ _ _ (c .before .before .size-of .ensures) ne) ne
+
+factorial-table-requires : tie.Need-factorial-table-requires
+factorial-table-requires c κs = search needs
+
+mul-if2 : tie.Need-mul-if2
+mul-if2 c = omega (arith, size-range (c .before .before .before .args .n) (sized (c .before)) .1)
+
+array-read-if2 : tie.Need-array-read-if2
+array-read-if2 c = omega (arith, size-range (c .before .before .before .args .n) (sized (c .before)) .1)
 
 no-prefix-requires-2 : tie.Need-no-prefix-requires-2
 no-prefix-requires-2 c κs = search needs
 
 returns-2 : tie.Need-returns-2
-returns-2 c = c .no-prefix2 .ensures ∙ too-many _ _ _ (c .before .if2 .taken)
-
-factorial-table-requires : tie.Need-factorial-table-requires
-factorial-table-requires c κs = search needs
-
-mul-if3 : tie.Need-mul-if3
-mul-if3 c = search needs
-
-array-read-if3 : tie.Need-array-read-if3
-array-read-if3 c = search needs
+returns-2 c =
+    let tabled = c .before .before in
+    c .no-prefix2 .ensures
+    ∙ prefix-refused _ _ _ (too-large _ _ _ (sized (tabled .before)) (omega (arith, c .before .if2 .taken, limit tabled))) (λ z. omega arith)
 
 no-prefix-requires-3 : tie.Need-no-prefix-requires-3
 no-prefix-requires-3 c κs = search needs
 
 returns-3 : tie.Need-returns-3
 returns-3 c =
-    let sized = c .before .before .before in
-    c .no-prefix3 .ensures
-    ∙ too-large _ _ _ (sized .before .if1 .left) (sized .if2 .left) (omega (arith, c .before .if3 .taken, limit (c .before .before)))
-
-no-prefix-requires-4 : tie.Need-no-prefix-requires-4
-no-prefix-requires-4 c κs = search needs
-
-returns-4 : tie.Need-returns-4
-returns-4 c =
-    let sized = c .before .before .before .before in
-    c .no-prefix4 .ensures ∙ no-symbol _ _ _ (sized .before .if1 .left) (sized .if2 .left) (omega (arith, c .before .if4 .taken))
+    let tabled = c .before .before .before in
+    c .no-prefix3 .ensures ∙ prefix-refused _ _ _ (no-symbol _ _ _ (sized (tabled .before)) (omega (arith, c .before .if3 .taken))) (λ z. omega arith)
 
 prefix-length-requires : tie.Need-prefix-length-requires
 prefix-length-requires c κs =
@@ -91,8 +93,8 @@ clear-from-requires c κs =
     let e = measured .prefix-length .ensures in
     (omega (arith, short v e, v .many), led-long v e (c .before .before .before .name-cells .ensures) (c .before .choose .ensures))
 
-returns-5 : tie.Need-returns-5
-returns-5 c =
+returns-4 : tie.Need-returns-4
+returns-4 c =
     let measured = c .before .before .before .before .before .before .before .before in
     coded-done (codes (measured .before .before)) (measured .prefix-length .ensures) (c .before .before .before .before .name-cells .ensures)
     (c .before .before .choose .ensures) (c .clear-from .ensures)
@@ -101,20 +103,19 @@ pub prefix-spec : {M : Type 1} → statement M
 prefix-spec =
     tie.close
     (tie.spec
+    size-of-requires
     no-prefix-requires
     returns
+    factorial-table-requires
+    mul-if2
+    array-read-if2
     no-prefix-requires-2
     returns-2
-    factorial-table-requires
-    mul-if3
-    array-read-if3
     no-prefix-requires-3
     returns-3
-    no-prefix-requires-4
-    returns-4
     prefix-length-requires
     falling-requires
     name-cells-requires
     choose-requires
     clear-from-requires
-    returns-5)
+    returns-4)

@@ -1,8 +1,7 @@
--- `symbols::store::store` meets its contract: each test decides the number, and past them the prefix's first cells are pushed. Assumes nothing.
-use native.Mathlib.Omega.{arith}
+-- `symbols::store::store` meets its contract: each test decides the number, and past them the prefix is stored. Assumes nothing.
 use borrow.Author.Needs.{needs}
 use Rattle.rewriting.proofs.Standing.{Standing, number-is, standing}
-use Rattle.symbols.proofs.Storing.{Found, found-done, found-lengths, found-pushable, unpassed-below, found-stored, store-refused, store-fault, store-value}
+use Rattle.symbols.proofs.Storing.{Found, found-done, found-storable, found-stored, store-refused, store-fault, store-value}
 use Rattle.symbols.proofs.store.store.Statement.{statement}
 use Rattle.symbols.proofs.store.store.Tie as tie
 
@@ -21,55 +20,55 @@ found-now c =
 read-requires : tie.Need-read-requires
 read-requires c κs = search needs
 
+no-pushes-requires : tie.Need-no-pushes-requires
+no-pushes-requires c κs = search needs
+
 same-length : tie.Need-same-length
 same-length c = search needs
 
 returns : tie.Need-returns
-returns c = store-refused _ _ _ (store-fault _ _ _ (number-is _ (c .before .before .read .ensures)) (c .if1 .taken)) (c .if1 .taken)
+returns c =
+    let ne = c .before .if1 .taken in
+    store-refused _ _ _ (c .no-pushes .ensures) (store-fault _ _ _ (number-is _ (c .before .before .before .read .ensures)) ne) ne
 
 prefix-requires : tie.Need-prefix-requires
 prefix-requires c κs = search needs
+
+no-pushes-requires-2 : tie.Need-no-pushes-requires-2
+no-pushes-requires-2 c κs = search needs
 
 same-length-2 : tie.Need-same-length-2
 same-length-2 c = search needs
 
 returns-2 : tie.Need-returns-2
 returns-2 c =
-    store-refused _ _ _ (store-value _ _ _ (read (c .before .before .before) .levels) (c .before .before .prefix .ensures) (c .if2 .taken)) (c .if2 .taken)
+    let found = c .before .before .before in
+    let ne = c .before .if2 .taken in
+    store-refused _ _ _ (c .no-pushes2 .ensures) (store-value _ _ _ (read (found .before) .levels) (found .prefix .ensures) ne) ne
 
-array-read-unpassed : tie.Need-array-read-unpassed
-array-read-unpassed c = search needs
-
-unpassed-requires : tie.Need-unpassed-requires
-unpassed-requires c κs = found-lengths (found-now (c .before .before .before))
-
-raise-requires : tie.Need-raise-requires
-raise-requires c κs =
-    let counted = c .before .before in
-    let f = found-now (counted .before .before .before .before) in
-    found-pushable f (omega (arith, unpassed-below f (counted .unpassed .ensures)))
+store-prefix-requires : tie.Need-store-prefix-requires
+store-prefix-requires c κs = found-storable (found-now (c .before .before .before .before .before))
 
 same-length-3 : tie.Need-same-length-3
 same-length-3 c = search needs
 
 returns-3 : tie.Need-returns-3
 returns-3 c =
-    let judged = c .before .before in
-    let counted = judged .before .before .before in
-    found-stored (found-now (counted .before .before .before .before)) (judged .raise .ensures) (omega (arith, counted .unpassed .ensures))
+    let done = c .before .before in
+    found-stored (found-now (done .before .before .before .before .before .before)) (done .store-prefix .ensures)
 
 pub store-spec : {M : Type 1} → statement M
 store-spec =
     tie.close
     (tie.spec
     read-requires
+    no-pushes-requires
     same-length
     returns
     prefix-requires
+    no-pushes-requires-2
     same-length-2
     returns-2
-    array-read-unpassed
-    unpassed-requires
-    raise-requires
+    store-prefix-requires
     same-length-3
     returns-3)
