@@ -1,13 +1,13 @@
 #!/usr/bin/env python3
-"""Checks that what README.md and docs/*.md name exists; docs/LANDINGS.md, which tells what was, is left out. What stands in back quotes must be one of
+"""Checks that what README.md, docs/*.md and docs/map/*.md name exists; docs/landings/ tells what was and is left out. What stands in back quotes must be one of
 
-- a path, whole or its last parts: `docs/MAP.md`, `bench/run`; below `target/`, which is not kept, by the crate that the file is named after: `target/log/bench.say`
+- a path, whole or its last parts: `docs/map/01.md`, `bench/run`; below `target/`, which is not kept, by the crate that the file is named after: `target/log/bench.say`
 - `specs/F`, `proofs/F` of crates/theory; `crate: F` (its specs/), `crate: specs/F`, `crate: proofs/F`; after these `: name`, a definition or theorem of that file
 - `Record.field`; `crate::file`, `crate::file::item`; `tm_name`, `TM_NAME` of the header; `rt check crate`
 - a word alone: a definition, theorem, field, function, struct, constant, edit, crate or file name, wherever it stands; after the word "edit" an edit
 - in a list after one of these, joined by commas, "and", "or", "with": of the same file, folder or record, as in `specs/Run: steps`, `pushCount`; `Demand3.gap`, `.jumps`
 
-Each edit's name stands once in the repository, and in a row of docs/MAP.md.
+Each edit's name stands once in the repository, and in a row of a file in docs/map/. A link `](..)` is relative to the folder of its document.
 
 Of an expression or a command only paths and words with an underscore or an inner capital are looked up. A line of a block without a language must stand in a file of
 crates/, unless `rt` printed it. Skipped: what has no letter, options, the words of OTHERS, blocks with a language (compare/readme.py), and what is not in back quotes."""
@@ -16,7 +16,8 @@ import sys
 from pathlib import Path
 
 ROOT = Path(__file__).resolve().parent.parent
-DOCUMENTS = [ROOT / "README.md", *sorted({*(ROOT / "docs").glob("*.md")} - {ROOT / "docs/LANDINGS.md"})]
+MAP = ROOT / "docs/map"
+DOCUMENTS = [ROOT / "README.md", *sorted((ROOT / "docs").glob("*.md")), *sorted(MAP.glob("*.md"))]
 NOT_KEPT = {"target", ".git", "__pycache__"}
 # What names nothing of this repository: words of Rattle, of its prover and its messages, of C and Rust, of the printed text, and placeholders.
 OTHERS = {*"""rt ensures requires pub axiom axioms if omega rw search close Result memcpy memmove memset rep .rt .antt old: i g s ns instructions
@@ -171,7 +172,7 @@ def wrongs(document):
     text = document.read_text()
     reader, end = Reader(), 0
     yield from (f"{crate}: no such crate" for crate in commands(text) if crate not in HERE.crates)
-    yield from (f"{link}: no such file" for link in re.findall(r"\]\(([^):]+)\)", text) if not (ROOT / link).exists())
+    yield from (f"{link}: no such file" for link in re.findall(r"\]\(([^):]+)\)", text) if not (document.parent / link).exists())
     for language, block in BLOCK.findall(text):
         lines = [line.strip() for line in block.splitlines() if not language and line.strip() and not PRINTED.match(line)]
         yield from (f"{line}: in no file of crates/" for line in lines if line not in HERE.lines)
@@ -184,18 +185,18 @@ def wrongs(document):
     print(f"{document.relative_to(ROOT)}: {reader.looked_up} names looked up")
 
 
-def edits_amiss(document):
-    """Edits whose name stands twice, or in no row of docs/MAP.md."""
+def edits_amiss():
+    """Edits whose name stands twice, or in no row of a file in docs/map/."""
     names = [Path(path).stem for path in sorted(HERE.paths) if path.endswith(".edit")]
-    rows = "".join(line for line in document.read_text().splitlines() if line.startswith("|"))
+    rows = "".join(line for document in MAP.glob("*.md") for line in document.read_text().splitlines() if line.startswith("|"))
     yield from (f"{name}: the name of two edits" for name in sorted(HERE.edits) if names.count(name) > 1)
     yield from (f"{name}: an edit in no row" for name in sorted(HERE.edits) if f"`{name}`" not in rows)
 
 
 bad = [(document, wrong) for document in DOCUMENTS for wrong in wrongs(document)]
-bad += [(ROOT / "docs/MAP.md", wrong) for wrong in edits_amiss(ROOT / "docs/MAP.md")]
+bad += [(MAP, wrong) for wrong in edits_amiss()]
 for document, wrong in bad:
     print(f"{document.relative_to(ROOT)}: {wrong}")
 failed = len({document for document, _ in bad})
-print(f"{len(DOCUMENTS) - failed} passed, {failed} failed")
+print(f"{len([*DOCUMENTS, MAP]) - failed} passed, {failed} failed")
 sys.exit(failed > 0)

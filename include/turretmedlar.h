@@ -27,7 +27,7 @@
 extern "C" {
 #endif
 
-/* The version of this header and its library; README.md and the Rust package have the same. The second number counts landings (docs/LANDINGS.md), each of which
+/* The version of this header and its library; README.md and the Rust package have the same. The second number counts landings (docs/landings/), each of which
  * may change what a caller sees; the third counts corrections since, which change nothing that a caller relies on. The first is 0 until a release. */
 #define TM_VERSION "0.6.0"
 /* The most cells of a group, and the places of a record's row. */
