@@ -1,11 +1,11 @@
 // The jobs on levels: what each gives, its number first, and the lent lists as it left them.
 ghost use Prim.Native.Nat.{_≤_};
-use super::line::COUNT_UP;
-use super::line::PUSH_LEVEL;
-use super::line::READ;
-use super::line::READ_SYMBOL;
-use super::line::RUN_LEVELS;
-use super::line::STORE;
+use super::job_names::COUNT_UP;
+use super::job_names::PUSH_LEVEL;
+use super::job_names::READ;
+use super::job_names::READ_SYMBOL;
+use super::job_names::RUN_LEVELS;
+use super::job_names::STORE;
 use super::numbers::Numbers;
 use super::numbers::counts_from;
 use super::numbers::levels_from;

@@ -1,8 +1,9 @@
 // The bench readings of document 01 and the examples of document 001, executed. Each line of standard input names a job and its input; the
 // program writes the line and what the job gives. It reads 65,536 bytes at most. The file `stdout` holds what the documents say, and `expected.py` how it was found.
+mod job_names; // which job a line names
 mod jobs; // the jobs on permutations
 mod level_jobs; // the jobs on levels alone
-mod line; // which job a line names, and its input
+mod line; // a line and its input
 mod numbers; // the numbers of a line
 mod rewriting_jobs; // rewriting, all symbols of a code, the prefix of one
 mod text; // text in a lent buffer
