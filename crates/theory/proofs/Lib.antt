@@ -9,6 +9,7 @@ pub mod Places
 pub mod Least
 pub mod Factorials
 pub mod Padding
+pub mod FilledRow
 pub mod Splits
 pub mod Moves
 pub mod Stepping

@@ -1,14 +1,15 @@
 -- A list in a row of places, with z past it; a row of twenty, with zeros. Assumes nothing.
 use mathlib.Core.Path.{_≡_, refl, ap, _∙_}
-use mathlib.Core.List.{List, [], _∷_, _++_, map, append-assoc}
+use mathlib.Core.List.{List, [], _∷_, _++_, map, append-assoc, reverse, reverse-cons}
 use Prim.Native.Nat.{ℕ, zero, suc, _-_, _≤_, _<_}
 use native.Mathlib.Nat.{sub-zero}
 use native.Mathlib.Omega.{arith}
-use lib.ListN.{length, getD, set, replicate, length-append, length-replicate, length-map, List·getD-append, List·getD-map}
-use lib.Seq.{set-at, take-append-seam}
+use lib.ListN.{length, getD, set, replicate, length-append, length-replicate, length-map, length-reverse, List·getD-append, List·getD-map}
+use lib.Seq.{set-at, getD-at, take-append-seam}
 use Rattle.theory.specs.Lists.{padded}
 use Rattle.theory.specs.Permutation.{row}
 use Rattle.theory.specs.Claims.{Padding}
+use Rattle.theory.proofs.Cases.{by-le}
 
 -- ---- lists
 
@@ -22,6 +23,20 @@ pub map-set : {A B : Type 0} (f : A → B) (l : List A) (i : ℕ) (a : A) → se
 map-set f [] i a = refl
 map-set f (x ∷ l) zero a = refl
 map-set f (x ∷ l) (suc i) a = ap (λ (r : List _). f x ∷ r) (map-set f l i a)
+
+-- an entry of a list of n that is turned round
+pub reverse-at : {A : Type 0} (l : List A) {n : ℕ} (i : ℕ) (d : A) → length l ≡ n → i < n → getD (reverse l) i d ≡ getD l (n - 1 - i) d
+reverse-at [] i d size h = absurd (omega arith)
+reverse-at (x ∷ l) {n} i d size h =
+    let long = length-reverse l in
+    rw reverse-cons
+    (by-le (length l) i
+    (λ last.
+    let none : n - 1 - i ≡ 0 = omega arith in
+    rw none (getD-at (reverse l) x [] d i (omega arith)))
+    (λ first.
+    let back : n - 1 - i ≡ suc (length l - 1 - i) = omega arith in
+    rw back (List·getD-append (reverse l) (x ∷ []) d i (omega arith) ∙ reverse-at l i d refl first)))
 
 -- ---- a row
 
