@@ -1,7 +1,6 @@
 -- Laws that the proofs of the functions use.
 pub mod Records
 pub mod PushedRows
-pub mod Zeros
 pub mod Answering
 pub mod Inserting
 pub mod Reflecting

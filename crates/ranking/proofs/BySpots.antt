@@ -17,9 +17,9 @@ use Rattle.theory.proofs.Counts.{delta-self, count-append, adds-between}
 use Rattle.theory.proofs.Permutations as permutations
 use Rattle.theory.proofs.Permutations.{Around, inside, removed}
 use Rattle.theory.proofs.Ranking.{digits-long}
+use Rattle.theory.proofs.FilledRow.{over-row}
 use Rattle.permutation.specs.Spots.{spot, HasSpots}
 use Rattle.permutation.proofs.Spots.{under, spot-first}
-use Rattle.permutation.proofs.Zeros.{filled}
 use Rattle.ranking.specs.BySpots.{Low, passed, readDigits, readInto}
 use Rattle.ranking.proofs.Circle.{around, digits-around}
 
@@ -99,7 +99,7 @@ read-digits {n} {xs} {spots} o h = read-around true n 0 xs spots o h (omega arit
 pub read-row :
     {n : ℕ} {xs spots left : List ℕ} → n ≤ 20 → IsPermutation n xs → HasSpots xs n spots
     → left ≡ readInto true n n 0 spots (replicate 20 0) → left ≡ row (digits n xs)
-read-row {n} {xs} few o h e = e ∙ rw (sub-self, read-digits o h) (filled n (digits n xs) (digits-long n xs) few)
+read-row {n} {xs} few o h e = e ∙ rw (sub-self, read-digits o h) (over-row 20 0 (digits n xs) (digits-long n xs) few)
 
 -- ---- a turn of a reader: cell m's digit goes to index n - m of the row, and the other reader does the rest
 pub low-less : {spots : List ℕ} {m : ℕ} → Low spots m → Low spots (m - 1)

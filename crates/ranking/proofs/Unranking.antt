@@ -15,13 +15,13 @@ use Rattle.theory.proofs.Ranking.{place-for, unrank-permutation}
 use Rattle.theory.proofs.Cases.{by-le}
 use Rattle.theory.proofs.Counts.{Adds, adds-between, count-append}
 use Rattle.theory.proofs.Permutations.{empty, added, absent-past}
+use Rattle.theory.proofs.FilledRow.{over-row}
 use Rattle.permutation.specs.Records.{recordOf}
 use Rattle.permutation.specs.Insert.{putIn}
 use Rattle.ranking.specs.BySpots.{passed, spotAfter, cellsBySpots}
 use Rattle.permutation.specs.declared.answers.Permutation.{Permutation}
 use Rattle.ranking.proofs.Circle.{around, insert-around}
 use Rattle.permutation.proofs.Inserting.{put-front}
-use Rattle.permutation.proofs.Zeros.{filled}
 
 -- ---- one cell: its spot and its place
 
@@ -112,4 +112,4 @@ pub unrank-record : (n r : ℕ) (row : List ℕ) → n ≤ 20 → row ≡ cellsB
 unrank-record n r row few e =
     let long = unrank-permutation n r .long in
     ap₂ (λ (k : ℕ) (l : List ℕ). record { n = k; cells = l }) (sym long)
-    (e ∙ ap (λ (l : List ℕ). l ++ drop n (replicate 20 0)) (sym (unrank-spots n r)) ∙ filled n (unrank n r) long few)
+    (e ∙ ap (λ (l : List ℕ). l ++ drop n (replicate 20 0)) (sym (unrank-spots n r)) ∙ over-row 20 0 (unrank n r) long few)

@@ -1,12 +1,17 @@
 -- `permutation::successor::reflected` meets its contract: each turn puts the next cell from the bottom into the row. Assumes nothing.
+use mathlib.Core.Path.{sym}
 use Prim.Native.Nat.{_-_}
+use native.Mathlib.Omega.{arith}
 use borrow.Author.Needs.{needs}
-use Rattle.permutation.proofs.Reflecting.{Reflecting, start, step, end}
+use lib.ListN.{take, replicate}
+use Rattle.theory.specs.Successor.{smaller}
+use Rattle.theory.proofs.FilledRow.{Filled, filled-more, row-none, row-all}
+use Rattle.permutation.proofs.Reflecting.{smaller-length, smaller-at}
 use Rattle.permutation.proofs.successor.reflected.Statement.{statement}
 use Rattle.permutation.proofs.successor.reflected.Tie as tie
 
 abbrev Inv-loop : tie.InvT-loop
-Inv-loop cells n m row₀ i₀ row i = Reflecting cells n row i
+Inv-loop cells n m row₀ i₀ row i = Filled (replicate 20 0) (smaller (take n cells)) m row i
 
 abbrev μ-loop : tie.MeasureT-loop
 μ-loop cells n m row₀ i₀ row i = m - i
@@ -15,7 +20,7 @@ sub-m : tie.Need-sub-m Inv-loop μ-loop
 sub-m c = search needs
 
 loop-holds : tie.Need-loop-holds Inv-loop μ-loop
-loop-holds c = start (c .pre .0) (c .pre .1) (c .pre .2)
+loop-holds c = row-none 20 0 (smaller-length (c .args .n) (c .args .cells .now) (omega arith)) (omega arith)
 
 sub-row : tie.Need-sub-row Inv-loop μ-loop
 sub-row c = search needs
@@ -33,10 +38,15 @@ loop-less : tie.Need-loop-less Inv-loop μ-loop
 loop-less c = search needs
 
 loop-again : tie.Need-loop-again Inv-loop μ-loop
-loop-again c = step (c .before .before .loop .inv) (c .before .loop-test .taken)
+loop-again c =
+    let more = c .before .loop-test .taken in
+    filled-more (c .before .before .loop .inv) more 0 (smaller-at _ _ _ (omega arith) more)
 
 returns : tie.Need-returns Inv-loop μ-loop
-returns c = end (c .before .loop .inv) (c .loop-test .left)
+returns c =
+    let v = c .before .loop .inv in
+    let cells = row-all 20 0 v (c .loop-test .left) in
+    λ k. record { n = sym (v .size) k; cells = cells k }
 
 pub reflected-spec : {M : Type 1} → statement M
 reflected-spec =
