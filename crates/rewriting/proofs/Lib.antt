@@ -3,6 +3,5 @@ pub mod Standing
 pub mod Raising
 pub mod Judging
 pub mod Sequence
-pub mod Listing
 pub mod Targets
 pub mod Rewriting

@@ -1,19 +1,26 @@
--- `rewriting::rewrite::list_pushes` meets its contract: what is listed, and then what is left, is the whole. Assumes nothing.
+-- `rewriting::rewrite::list_pushes` meets its contract: the list is filled with the first r cells, the last of them first. Assumes nothing.
+use mathlib.Core.Path.{sym, _∙_}
+use mathlib.Core.List.{reverse}
 use Prim.Native.Nat.{_-_}
 use native.Mathlib.Omega.{arith}
 use borrow.Author.Needs.{needs}
-use Rattle.rewriting.proofs.Listing.{Listing, start, end, step}
+use lib.ListN.{take, length-reverse}
+use lib.Seq.{length-take-le, getD-take}
+use Rattle.theory.proofs.Padding.{reverse-at}
+use Rattle.theory.proofs.FilledRow.{Filled, filled-none, filled-more, filled-all}
 use Rattle.rewriting.proofs.rewrite.list_pushes.Statement.{statement}
 use Rattle.rewriting.proofs.rewrite.list_pushes.Tie as tie
 
 abbrev Inv-loop : tie.InvT-loop
-Inv-loop list₀ cells r i₀ list i = Listing list₀ cells r list i
+Inv-loop list₀ cells r i₀ list i = Filled list₀ (reverse (take r cells)) r list i
 
 abbrev μ-loop : tie.MeasureT-loop
 μ-loop list₀ cells r i₀ list i = r - i
 
 loop-holds : tie.Need-loop-holds Inv-loop μ-loop
-loop-holds c = start (c .pre .2) (omega (arith, c .pre .0, c .pre .1))
+loop-holds c =
+    let first = take (c .args .r) (c .args .cells .now) in
+    filled-none (length-reverse first ∙ length-take-le (c .args .r) (c .args .cells .now) (omega arith)) (c .pre .2)
 
 sub-list : tie.Need-sub-list Inv-loop μ-loop
 sub-list c = search needs
@@ -34,13 +41,17 @@ loop-less : tie.Need-loop-less Inv-loop μ-loop
 loop-less c = search needs
 
 loop-again : tie.Need-loop-again Inv-loop μ-loop
-loop-again c = step (c .before .before .loop .inv) (c .before .loop-test .taken)
+loop-again c =
+    let more = c .before .loop-test .taken in
+    let a = c .before .before .before .args in
+    let first = length-take-le (a .r) (a .cells .now) (omega arith) in
+    filled-more (c .before .before .loop .inv) more 0 (sym (reverse-at (take (a .r) (a .cells .now)) _ 0 first more ∙ getD-take (a .r) _ _ 0 (omega arith)))
 
 same-length : tie.Need-same-length Inv-loop μ-loop
-same-length c = c .before .loop .inv .size
+same-length c = c .before .loop .inv .long
 
 returns : tie.Need-returns Inv-loop μ-loop
-returns c = end (c .before .loop .inv) (c .loop-test .left)
+returns c = filled-all (c .before .loop .inv) (c .loop-test .left)
 
 pub list-pushes-spec : {M : Type 1} → statement M
 list-pushes-spec =

@@ -1,18 +1,23 @@
 -- `symbols::prefix::name_cells` meets its contract: each turn writes one more name over the row. Assumes nothing.
-use Prim.Native.Nat.{_-_}
+use mathlib.Core.Path.{_≡_}
+use Prim.Native.Nat.{_+_, _-_}
+use native.Mathlib.Omega.{arith}
 use borrow.Author.Needs.{needs}
-use Rattle.symbols.proofs.Writing.{Named, named-none, named-more, named-all}
+use lib.ListN.{getD}
+use Rattle.theory.specs.Lists.{names}
+use Rattle.theory.proofs.Names.{names-length, names-at}
+use Rattle.theory.proofs.FilledRow.{Filled, filled-none, filled-more, filled-all}
 use Rattle.symbols.proofs.prefix.name_cells.Statement.{statement}
 use Rattle.symbols.proofs.prefix.name_cells.Tie as tie
 
 abbrev Inv-loop : tie.InvT-loop
-Inv-loop cells₀ n i₀ cells i = Named n cells₀ cells i
+Inv-loop cells₀ n i₀ cells i = Filled cells₀ (names n) n cells i
 
 abbrev μ-loop : tie.MeasureT-loop
 μ-loop cells₀ n i₀ cells i = n - i
 
 loop-holds : tie.Need-loop-holds Inv-loop μ-loop
-loop-holds c = named-none (c .pre .0) (c .pre .1)
+loop-holds c = filled-none (names-length 1 (c .args .n)) (omega arith)
 
 add-i : tie.Need-add-i Inv-loop μ-loop
 add-i c = search needs
@@ -30,10 +35,16 @@ loop-less : tie.Need-loop-less Inv-loop μ-loop
 loop-less c = search needs
 
 loop-again : tie.Need-loop-again Inv-loop μ-loop
-loop-again c = named-more (c .before .loop .inv) (c .loop-test .taken)
+loop-again c =
+    let l = c .before .loop in
+    let n = c .before .before .args .n in
+    let more = c .loop-test .taken in
+    let back : l .i + 1 - 1 ≡ l .i = omega arith in
+    let name : l .i + 1 ≡ getD (names n) (l .i) 0 = omega (arith, names-at 1 n (l .i) more) in
+    rw back (filled-more (l .inv) more 0 name)
 
 returns : tie.Need-returns Inv-loop μ-loop
-returns c = named-all (c .before .loop .inv) (c .loop-test .left)
+returns c = filled-all (c .before .loop .inv) (c .loop-test .left)
 
 pub name-cells-spec : {M : Type 1} → statement M
 name-cells-spec =
