@@ -54,6 +54,9 @@ module _ {groups : Groups} (h : GroupsHeld groups) where
   pub held-count : groups .count ≡ length (groupsIn groups)
   held-count = ap (λ (x : Groups). x .count) (h .held)
 
+  pub map-count : (f : List ℕ → ℕ) → length (map f (groupsIn groups)) ≡ groups .count
+  map-count f = length-map (groupsIn groups) f ∙ sym held-count
+
   module _ (g : ℕ) (below : g < groups .count) (d : Group) where
     pub held-at : getD (groups .list) g d ≡ groupOf (getD (groupsIn groups) g [])
     held-at = ap (λ (x : Groups). getD (x .list) g d) (h .held) ∙ groups-at (groupsIn groups) g (omega (arith, held-count)) d
@@ -63,7 +66,7 @@ module _ {groups : Groups} (h : GroupsHeld groups) where
 
   -- the numbers of cells at the front of a row
   pub sizes-front : take (groups .count) (padded 64 0 (map length (groupsIn groups))) ≡ map length (groupsIn groups)
-  sizes-front = take-at (map length (groupsIn groups)) _ (groups .count) (length-map (groupsIn groups) length ∙ sym held-count)
+  sizes-front = take-at (map length (groupsIn groups)) _ (groups .count) (map-count length)
 
   -- the sheet that is held, from its parts
   pub sheet-held : (n : ℕ) (row es : List Entry) → length es ≡ n → row ≡ padded 1000 noEntry es

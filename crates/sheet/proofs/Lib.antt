@@ -2,7 +2,6 @@
 pub mod Inversion
 pub mod Valid
 pub mod InMemory
-pub mod Filling
 pub mod Longest
 pub mod Claims
 pub mod Spelled

@@ -1,16 +1,13 @@
 -- Numbers read from bytes: where the bytes are there, and where they end early. Assumes nothing.
 use mathlib.Core.Path.{_≡_, refl, ap, _∙_}
-use mathlib.Core.List.{List, [], _∷_, _++_}
+use mathlib.Core.List.{List}
 use Prim.Native.Nat.{ℕ, zero, suc, _+_, _*_, _≤_, _<_}
 use native.Mathlib.Nat.{add-zero, mul-zero, mul-suc}
-use native.Mathlib.Numerals.{add-one}
 use native.Mathlib.Omega.{arith}
 use borrow.Author.Tests.{le-leb, lt-leb}
-use lib.ListN.{length, getD, take, drop, set}
+use lib.ListN.{length, getD, take, drop}
 use lib.Seq.{drop-cons}
-use Rattle.theory.specs.Permutation.{row}
 use Rattle.theory.proofs.Cases.{by-le}
-use Rattle.theory.proofs.Padding.{padded-snoc}
 use Rattle.sheet.specs.Bytes.{ill-formed, fault, got, after, check, many, little, number}
 use Rattle.sheet.specs.Parts.{numbers}
 
@@ -53,15 +50,11 @@ module _ (s : List ℕ) where
   numbers-length k zero at = refl
   numbers-length k (suc n) at = ap suc (numbers-length k n (at + k))
 
-  -- one number more, at the end
-  numbers-snoc : (k n at : ℕ) → numbers k (suc n) s at ≡ numbers k n s at ++ little (take k (drop (at + k * n) s)) ∷ []
+  -- number i of them
+  pub numbers-at : (k n at i : ℕ) → i < n → getD (numbers k n s at) i 0 ≡ little (take k (drop (at + k * i) s))
   unfolding numbers
-  numbers-snoc k zero at = rw (mul-zero, add-zero)
-  numbers-snoc k (suc n) at =
-      let far : at + k + k * n ≡ at + k * suc n = omega (arith, mul-suc k n) in
-      ap (λ (l : List ℕ). little (take k (drop at s)) ∷ l) (rw (← far) (numbers-snoc k n (at + k)))
-
-  -- and in a row of twenty
-  pub numbers-more : (k i at x : ℕ) → i < 20 → x ≡ little (take k (drop (at + k * i) s)) → set (row (numbers k i s at)) i x ≡ row (numbers k (i + 1) s at)
-  numbers-more k i at x h e =
-      rw (add-one, numbers-snoc, ← e) (padded-snoc 20 0 i (numbers k i s at) x (numbers-length k i at) h)
+  numbers-at k zero at i h = absurd (omega arith)
+  numbers-at k (suc n) at zero h = rw (mul-zero, add-zero)
+  numbers-at k (suc n) at (suc i) h =
+      let far : at + k + k * i ≡ at + k * suc i = omega (arith, mul-suc k i) in
+      rw (← far) (numbers-at k n (at + k) i (omega arith))

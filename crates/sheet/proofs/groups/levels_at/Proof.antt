@@ -1,23 +1,25 @@
 -- `sheet::groups::levels_at` meets its contract: the row holds the first i levels. Assumes nothing.
-use mathlib.Core.Path.{_≡_}
-use Prim.Native.Nat.{_-_, _≤_}
+use mathlib.Core.Path.{sym, _∙_}
+use Prim.Native.Nat.{_-_}
 use native.Mathlib.Omega.{arith}
 use borrow.Author.Needs.{needs}
-use Rattle.theory.specs.Permutation.{row}
+use lib.ListN.{replicate}
+use Rattle.theory.proofs.FilledRow.{Filled, filled-more, row-none, row-all}
 use Rattle.sheet.specs.Parts.{numbers}
-use Rattle.sheet.proofs.Reading.{numbers-more}
+use Rattle.sheet.proofs.Reading.{numbers-length, numbers-at}
 use Rattle.sheet.proofs.groups.levels_at.Statement.{statement}
 use Rattle.sheet.proofs.groups.levels_at.Tie as tie
 
 abbrev Inv-loop : tie.InvT-loop
-Inv-loop s from n levels₀ i₀ levels i = (i ≤ n) × (levels ≡ row (numbers 2 i s from))
+Inv-loop s from n levels₀ i₀ levels i = Filled (replicate 20 0) (numbers 2 n s from) n levels i
 
 abbrev μ-loop : tie.MeasureT-loop
 μ-loop s from n levels₀ i₀ levels i = n - i
 
 loop-holds : tie.Need-loop-holds Inv-loop μ-loop
-unfolding numbers
-loop-holds c = search needs
+loop-holds c =
+    let a = c .before .args in
+    row-none 20 0 (numbers-length (a .s .now) 2 (a .n) (a .from)) (omega arith)
 
 mul-little : tie.Need-mul-little Inv-loop μ-loop
 mul-little c = search needs
@@ -47,13 +49,11 @@ loop-again : tie.Need-loop-again Inv-loop μ-loop
 loop-again c =
     let a = c .before .before .before .before .args in
     let l = c .before .before .loop in
-    (omega arith, rw (l .inv .1) (numbers-more (a .s .now) 2 (l .i) (a .from) _ (omega arith) (c .little .ensures .0)))
+    let more = c .before .loop-test .taken in
+    filled-more (l .inv) more 0 (c .little .ensures .0 ∙ sym (numbers-at (a .s .now) 2 (a .n) (a .from) (l .i) more))
 
 returns : tie.Need-returns Inv-loop μ-loop
-returns c =
-    let l = c .before .loop in
-    let done : l .i ≡ c .before .before .before .args .n = omega arith in
-    rw done at (l .inv .1)
+returns c = row-all 20 0 (c .before .loop .inv) (c .loop-test .left)
 
 pub levels-at-spec : {M : Type 1} → statement M
 levels-at-spec =

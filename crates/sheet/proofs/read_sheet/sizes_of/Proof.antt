@@ -1,22 +1,24 @@
 -- `sheet::read_sheet::sizes_of` meets its contract: the row holds the numbers of cells of the groups passed. Assumes nothing.
-use mathlib.Core.Path.{ap}
+use mathlib.Core.Path.{sym, ap, _∙_}
+use mathlib.Core.List.{[], map}
 use Prim.Native.Nat.{_-_}
 use borrow.Author.Needs.{needs}
-use lib.ListN.{length}
+use lib.ListN.{length, replicate, List·getD-map}
+use Rattle.theory.proofs.FilledRow.{Filled, filled-more, row-none, row-all}
+use Rattle.sheet.specs.Held.{groupsIn}
 use Rattle.sheet.specs.declared.held.Group.{Group}
-use Rattle.sheet.proofs.InMemory.{held-at}
-use Rattle.sheet.proofs.Filling.{Filled, filled-none, filled-more, filled-all}
+use Rattle.sheet.proofs.InMemory.{map-count, held-at}
 use Rattle.sheet.proofs.read_sheet.sizes_of.Statement.{statement}
 use Rattle.sheet.proofs.read_sheet.sizes_of.Tie as tie
 
 abbrev Inv-loop : tie.InvT-loop
-Inv-loop groups count sizes₀ g₀ sizes g = Filled length groups sizes g
+Inv-loop groups count sizes₀ g₀ sizes g = Filled (replicate 64 0) (map length (groupsIn groups)) count sizes g
 
 abbrev μ-loop : tie.MeasureT-loop
 μ-loop groups count sizes₀ g₀ sizes g = count - g
 
 loop-holds : tie.Need-loop-holds Inv-loop μ-loop
-loop-holds c = filled-none length (c .args .t1)
+loop-holds c = row-none 64 0 (map-count (c .pre) length) (c .pre .few)
 
 mul-group : tie.Need-mul-group Inv-loop μ-loop
 mul-group c = search needs
@@ -41,10 +43,11 @@ loop-again c =
     let at = c .before .before in
     let h = at .before .pre in
     let more = c .before .loop-test .taken in
-    filled-more h (at .loop .inv) more (ap (λ (g : Group). g .n) (held-at h _ more _))
+    let entry = List·getD-map length (groupsIn (at .before .args .t1)) (at .loop .g) [] in
+    filled-more (at .loop .inv) more 0 (ap (λ (g : Group). g .n) (held-at h _ more _) ∙ sym entry)
 
 returns : tie.Need-returns Inv-loop μ-loop
-returns c = filled-all (c .before .before .pre) (c .before .loop .inv) (c .loop-test .left)
+returns c = row-all 64 0 (c .before .loop .inv) (c .loop-test .left)
 
 pub sizes-of-spec : {M : Type 1} → statement M
 sizes-of-spec =

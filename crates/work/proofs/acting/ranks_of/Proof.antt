@@ -1,22 +1,25 @@
 -- `work::acting::ranks_of` meets its contract. The loop's invariant: the row holds the ranks of the groups passed. Assumes nothing.
-use mathlib.Core.Path.{ap, _∙_}
+use mathlib.Core.Path.{sym, ap, _∙_}
+use mathlib.Core.List.{[], map}
 use Prim.Native.Nat.{_-_}
 use borrow.Author.Needs.{needs}
-use Rattle.sheet.proofs.InMemory.{held-levels}
-use Rattle.sheet.proofs.Filling.{Filled, filled-none, filled-more, filled-all}
+use lib.ListN.{replicate, List·getD-map}
+use Rattle.theory.proofs.FilledRow.{Filled, filled-more, row-none, row-all}
+use Rattle.sheet.specs.Held.{groupsIn}
+use Rattle.sheet.proofs.InMemory.{map-count, held-levels}
 use Rattle.work.specs.Work.{rankOf}
 use Rattle.work.proofs.Working.{group-at-held}
 use Rattle.work.proofs.acting.ranks_of.Statement.{statement}
 use Rattle.work.proofs.acting.ranks_of.Tie as tie
 
 abbrev Inv-loop : tie.InvT-loop
-Inv-loop groups count ranks₀ g₀ ranks g = Filled rankOf groups ranks g
+Inv-loop groups count ranks₀ g₀ ranks g = Filled (replicate 64 0) (map rankOf (groupsIn groups)) count ranks g
 
 abbrev μ-loop : tie.MeasureT-loop
 μ-loop groups count ranks₀ g₀ ranks g = count - g
 
 loop-holds : tie.Need-loop-holds Inv-loop μ-loop
-loop-holds c = filled-none rankOf (c .args .t1)
+loop-holds c = row-none 64 0 (map-count (c .pre) rankOf) (c .pre .few)
 
 mul-group : tie.Need-mul-group Inv-loop μ-loop
 mul-group c = search needs
@@ -46,10 +49,11 @@ loop-again c =
     let at = c .before .before .before in
     let h = at .before .pre in
     let more = c .before .before .loop-test .taken in
-    filled-more h (at .loop .inv) more (c .rank-of .ensures ∙ ap rankOf (held-levels h _ more _))
+    let entry = List·getD-map rankOf (groupsIn (at .before .args .t1)) (at .loop .g) [] in
+    filled-more (at .loop .inv) more (rankOf []) (c .rank-of .ensures ∙ ap rankOf (held-levels h _ more _) ∙ sym entry)
 
 returns : tie.Need-returns Inv-loop μ-loop
-returns c = filled-all (c .before .before .pre) (c .before .loop .inv) (c .loop-test .left)
+returns c = row-all 64 0 (c .before .loop .inv) (c .loop-test .left)
 
 pub ranks-of-spec : {M : Type 1} → statement M
 ranks-of-spec =
