@@ -12,28 +12,23 @@ use Rattle.theory.specs.Demand3.{Start}
 use Rattle.theory.proofs.Cases.{by-name}
 use Rattle.theory.proofs.Refusal.{orElse-done, readable, ceiling-room}
 use Rattle.theory.proofs.Reading.{pushed-length}
-use Rattle.theory.proofs.Calls.{calling, call-number}
+use Rattle.theory.proofs.Calls.{calling}
+use Rattle.theory.proofs.InTurn.{left-next, left-keeps, answers-length, answer-at}
 use Rattle.theory.proofs.Demand3.{demand3}
 
 -- ---- one call more
-pub after-snoc : (ks L : List ℕ) (k : ℕ) → afterCalls (ks ++ k ∷ []) L ≡ callLevels k (afterCalls ks L)
+pub after-next : (ks L : List ℕ) (i : ℕ) → i < length ks → afterCalls (take (suc i) ks) L ≡ callLevels (getD ks i 0) (afterCalls (take i ks) L)
 unfolding afterCalls
-after-snoc [] L k = refl
-after-snoc (j ∷ ks) L k = after-snoc ks (callLevels j L) k
+after-next ks L i = left-next callLevels ks L i 0
 
 pub done-snoc : (ks L : List ℕ) (k : ℕ) → stepsDone (ks ++ k ∷ []) L ≡ stepsDone ks L + callPushes k (afterCalls ks L)
 unfolding afterCalls stepsDone
 done-snoc [] L k = omega arith
 done-snoc (j ∷ ks) L k = rw (done-snoc ks (callLevels j L) k) (omega arith)
 
-pub numbers-snoc : (ks L : List ℕ) (k : ℕ) → callNumbers (ks ++ k ∷ []) L ≡ callNumbers ks L ++ callNumber k (afterCalls ks L) ∷ []
-unfolding callNumbers
-numbers-snoc ks L k = call-number L ks k []
-
 pub numbers-long : (ks L : List ℕ) → length (callNumbers ks L) ≡ length ks
 unfolding callNumbers
-numbers-long [] L = refl
-numbers-long (k ∷ ks) L = ap suc (numbers-long ks (callLevels k L))
+numbers-long = answers-length callLevels callNumber
 
 -- no call changes how many levels there are
 count-length : (k : ℕ) (L : List ℕ) → length (countUp k L) ≡ length L
@@ -48,15 +43,12 @@ call-length k L = by-name (callNumber k L) 0
 
 pub after-length : (ks L : List ℕ) → length (afterCalls ks L) ≡ length L
 unfolding afterCalls
-after-length [] L = refl
-after-length (k ∷ ks) L = after-length ks (callLevels k L) ∙ call-length k L
+after-length ks L = left-keeps callLevels (λ (M : List ℕ). length M ≡ length L) (λ k M e. call-length k M ∙ e) ks L refl
 
 -- the number of call i
 pub number-at : (ks L : List ℕ) (i : ℕ) → i < length ks → getD (callNumbers ks L) i 0 ≡ callNumber (getD ks i 0) (afterCalls (take i ks) L)
 unfolding callNumbers afterCalls
-number-at [] L i h = absurd (omega arith)
-number-at (k ∷ ks) L zero h = refl
-number-at (k ∷ ks) L (suc i) h = number-at ks (callLevels k L) i (omega arith)
+number-at ks L i = answer-at callLevels callNumber ks L i 0 0
 
 -- ---- the steps done fit: the highest level bounds them
 steps-room : (ks L : List ℕ) → stepsDone ks L ≤ 65535 - highest L

@@ -1,5 +1,5 @@
 -- Lists of count-up calls on levels without a tie: the levels that they leave are those of a run of steps. Assumes nothing.
-use mathlib.Core.Path.{_≡_, refl, ap, _∙_}
+use mathlib.Core.Path.{_≡_, refl, sym, ap, _∙_}
 use mathlib.Core.Bool.{false}
 use mathlib.Core.List.{List, [], _∷_, _++_}
 use Prim.Native.Nat.{ℕ, _+_, _≤_, _<_}
@@ -13,6 +13,7 @@ use Rattle.theory.specs.Claims.{Calling}
 use Rattle.theory.specs.Demand3.{Done, Refused}
 use Rattle.theory.proofs.Cases.{by-le}
 use Rattle.theory.proofs.Refusal.{size-large, size-done}
+use Rattle.theory.proofs.InTurn.{left-append, answers-append}
 use Rattle.theory.proofs.Sorting.{reads-untied}
 use Rattle.theory.proofs.LevelRun.{run-length, run-reads, stepLevels-add, countUp-run}
 
@@ -67,5 +68,6 @@ calls-run n low high (k ∷ ks) L xs size r =
 pub call-number : (L ks : List ℕ) (k : ℕ) (later : List ℕ)
     → callNumbers (ks ++ k ∷ later) L ≡ callNumbers ks L ++ callNumber k (afterCalls ks L) ∷ callNumbers later (afterCalls (ks ++ k ∷ []) L)
 unfolding callNumbers afterCalls
-call-number L [] k later = refl
-call-number L (j ∷ ks) k later = ap (λ (l : List ℕ). callNumber j L ∷ l) (call-number (callLevels j L) ks k later)
+call-number L ks k later =
+    answers-append callLevels callNumber ks (k ∷ later) L
+    ∙ ap (λ (M : List ℕ). callNumbers ks L ++ callNumber k (afterCalls ks L) ∷ callNumbers later M) (sym (left-append callLevels ks (k ∷ []) L))

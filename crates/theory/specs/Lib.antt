@@ -10,6 +10,7 @@ pub mod Rank
 pub mod Unrank
 pub mod Levels
 pub mod CountUp
+pub mod InTurn
 pub mod Run
 pub mod Rewrite
 pub mod Prefix

@@ -5,6 +5,7 @@ use Rattle.theory.specs.Lists.{delta}
 use Rattle.theory.specs.Permutation.{top}
 use Rattle.theory.specs.Successor.{step}
 use Rattle.theory.specs.Levels.{pushLevel}
+use Rattle.theory.specs.InTurn.{leftBy, answersTo}
 use Rattle.theory.specs.CountUp.{callNumber, callPushes, callLevels}
 
 -- the permutation after k steps: "The following step gets the record which that push returned."
@@ -24,13 +25,11 @@ stepLevels n (suc k) xs L = pushLevel (top (steps n (suc k) xs)) (stepLevels n k
 
 -- a list of count-up calls, by their counts: "Each count-up call gets the list as the last one left it"
 unfoldable pub afterCalls : List ℕ → List ℕ → List ℕ
-afterCalls [] L = L
-afterCalls (k ∷ ks) L = afterCalls ks (callLevels k L)
+afterCalls ks L = leftBy callLevels ks L
 
 -- the number that each call gets
 unfoldable pub callNumbers : List ℕ → List ℕ → List ℕ
-callNumbers [] L = []
-callNumbers (k ∷ ks) L = callNumber k L ∷ callNumbers ks (callLevels k L)
+callNumbers ks L = answersTo callNumber callLevels ks L
 
 -- "Let K be the sum of k over the calls done."
 unfoldable pub stepsDone : List ℕ → List ℕ → ℕ
