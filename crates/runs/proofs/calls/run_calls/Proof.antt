@@ -1,17 +1,16 @@
 -- `runs::calls::run_calls` meets its contract. The loop's invariant: levels, numbers and pushes are those of the calls made. Assumes nothing.
-use mathlib.Core.Path.{_≡_, ap, subst}
-use Prim.Native.Nat.{ℕ, _+_, _-_, _≤_}
+use mathlib.Core.Path.{ap}
+use Prim.Native.Nat.{_+_, _-_, _≤_}
 use native.Mathlib.Omega.{arith}
 use lib.ListN.{length, set}
 use Rattle.charge.specs.declared.answers.Pushes.{Pushes}
-use Rattle.runs.proofs.Calling.{Made, made-none, made-more, called-done, calls-of, called-refused, levels-length, numbers-length}
+use Rattle.runs.proofs.Calling.{Made, made-none, made-more, levels-length, called-done, calls-of, called-refused}
 use borrow.Author.Needs.{needs}
 use Rattle.runs.proofs.calls.run_calls.Statement.{statement}
 use Rattle.runs.proofs.calls.run_calls.Tie as tie
 
 abbrev Inv-loop : tie.InvT-loop
-Inv-loop levels₀ counts numbers₀ pushes₀ i₀ levels numbers pushes i =
-    (i ≤ length counts) × (length counts ≤ length numbers₀) × Made levels₀ counts numbers₀ i levels numbers pushes
+Inv-loop levels₀ counts numbers₀ pushes₀ i₀ levels numbers pushes i = Made levels₀ counts numbers₀ i levels numbers pushes
 
 abbrev μ-loop : tie.MeasureT-loop
 μ-loop levels₀ counts numbers₀ pushes₀ i₀ levels numbers pushes i = length counts - i
@@ -21,14 +20,11 @@ no-pushes-requires c κs = search needs
 
 returns : tie.Need-returns Inv-loop μ-loop
 returns c =
-    let a = c .before .before .before .before .before .args in
-    let b = called-refused (a .levels .now) (a .counts .now) (a .numbers .now) (c .no-pushes .ensures) (c .before .if1 .taken) in
+    let b = called-refused _ _ _ (c .no-pushes .ensures) (c .before .if1 .taken) in
     (b .0, (b .1 .0, (b .1 .1, λ z. absurd (omega (arith, z, ap (λ (a : Pushes). a .number) (c .no-pushes .ensures))))))
 
 loop-holds : tie.Need-loop-holds Inv-loop μ-loop
-loop-holds c =
-    let a = c .before .before .before .before .args in
-    (omega arith, c .if1 .left, made-none (a .levels .now) (a .counts .now) (a .numbers .now))
+loop-holds c = made-none (c .if1 .left)
 
 mul-count-up : tie.Need-mul-count-up Inv-loop μ-loop
 mul-count-up c = search needs
@@ -40,10 +36,7 @@ count-up-requires : tie.Need-count-up-requires Inv-loop μ-loop
 count-up-requires c κs = search needs
 
 slice-write-numbers : tie.Need-slice-write-numbers Inv-loop μ-loop
-slice-write-numbers c =
-    let at = c .before .before .before .before .before .before in
-    let inv = at .loop .inv in
-    omega (arith, numbers-length _ _ _ (inv .2) (inv .0) (inv .1), inv .1)
+slice-write-numbers c = search needs
 
 -- the call that a turn makes
 made : (c : tie.After-struct-known Inv-loop μ-loop)
@@ -56,9 +49,7 @@ made : (c : tie.After-struct-known Inv-loop μ-loop)
 made c =
     let turn = c .before .before .before in
     let at = turn .before .before .before .before in
-    let inv = at .loop .inv in
-    made-more _ _ _ (at .loop .i) (at .loop .levels) (at .loop .numbers) (at .loop .pushes) (inv .2) (turn .before .before .before .loop-test .taken) (inv .1)
-    _ _ (turn .count-up .ensures .0) (turn .count-up .ensures .1)
+    made-more (at .loop .inv) (turn .before .before .before .loop-test .taken) _ _ (turn .count-up .ensures .0) (turn .count-up .ensures .1)
 
 add-pushes : tie.Need-add-pushes Inv-loop μ-loop
 add-pushes c = omega (arith, made c .0)
@@ -70,36 +61,24 @@ loop-less : tie.Need-loop-less Inv-loop μ-loop
 loop-less c = search needs
 
 loop-again : tie.Need-loop-again Inv-loop μ-loop
-loop-again c =
-    let at = c .before .before .before .before .before .before .before in
-    (omega arith, at .loop .inv .1, made c .1)
+loop-again c = made c .1
 
 done-pushes-requires : tie.Need-done-pushes-requires Inv-loop μ-loop
 done-pushes-requires c κs = search needs
 
 same-length : tie.Need-same-length Inv-loop μ-loop
-same-length c = levels-length _ _ _ (c .before .before .loop .inv .2)
+same-length c = levels-length (c .before .before .loop .inv)
 
 same-length-2 : tie.Need-same-length-2 Inv-loop μ-loop
-same-length-2 c =
-    let inv = c .before .before .loop .inv in
-    numbers-length _ _ _ (inv .2) (inv .0) (inv .1)
+same-length-2 c = c .before .before .loop .inv .in-turn .answered .long
 
 returns-2 : tie.Need-returns-2 Inv-loop μ-loop
 returns-2 c =
-    let at = c .before .before in
-    let a = at .before .before .before .before .before .args in
-    let L = a .levels .now in
-    let ks = a .counts .now in
-    let numbers₀ = a .numbers .now in
-    let levels = at .loop .levels in
-    let numbers = at .loop .numbers in
-    let pushes = at .loop .pushes in
-    let all : at .loop .i ≡ length ks = omega (arith, at .loop .inv .0) in
-    let v = subst (λ (j : ℕ). Made L ks numbers₀ j levels numbers pushes) all (at .loop .inv .2) in
-    let b = called-done L ks numbers₀ levels numbers pushes v (at .loop .inv .1) (c .done-pushes .ensures) in
-    let told = ap (λ (a : Pushes). a .pushes) (c .done-pushes .ensures) in
-    (b .0, (b .1 .0, (b .1 .1, λ z few start. rw told (calls-of L ks numbers₀ levels numbers pushes v few start))))
+    let v = c .before .before .loop .inv in
+    let all = c .before .loop-test .left in
+    let e = c .done-pushes .ensures in
+    let b = called-done v all e in
+    (b .0, (b .1 .0, (b .1 .1, λ z few start. rw (ap (λ (a : Pushes). a .pushes) e) (calls-of v all few start))))
 
 pub run-calls-spec : {M : Type 1} → statement M
 run-calls-spec =
