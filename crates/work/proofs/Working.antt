@@ -1,14 +1,17 @@
 -- Working through a sheet in memory: groups in their row, and what the commands so far answered and left. Assumes nothing.
 use mathlib.Core.Path.{_≡_, refl, sym, ap, _∙_}
-use mathlib.Core.List.{List, [], _∷_, _++_, map}
-use Prim.Native.Nat.{ℕ, suc, _+_, _-_, _≤_, _<_}
-use native.Mathlib.Numerals.{add-one}
+use mathlib.Core.List.{List, [], _++_, map}
+use Prim.Native.Nat.{ℕ, _+_, _-_, _≤_, _<_}
 use native.Mathlib.Omega.{arith}
-use lib.ListN.{length, getD, take, drop, set, replicate, length-set, length-map}
-use lib.Seq.{length-take-le, take-all, take-suc, drop-append-seam, getD-take, set-append-left, getD-set-same, getD-set-other}
+use lib.ListN.{length, getD, take, drop, set, replicate, length-set, length-replicate, length-map}
+use lib.Seq.{drop-append-seam, getD-take, set-append-left, getD-set-same, getD-set-other}
 use Rattle.theory.specs.Lists.{padded}
+use Rattle.theory.specs.InTurn.{leftBy}
 use Rattle.theory.proofs.Cases.{by-name}
-use Rattle.theory.proofs.Padding.{getD-any, map-set, padded-none, padded-snoc}
+use Rattle.theory.proofs.Padding.{getD-any, map-set}
+use Rattle.theory.proofs.FilledRow.{row-all}
+use Rattle.theory.proofs.InTurn as turns
+use Rattle.theory.proofs.InTurn.{left-keeps, InTurn, turn-none, turn-more, turn-left}
 use Rattle.permutation.specs.declared.answers.Permutation.{Permutation}
 use Rattle.theory.specs.Levels.{readNumber}
 use Rattle.charge.specs.declared.answers.Pushes.{Pushes}
@@ -66,43 +69,29 @@ group-at-held h g below d = rw (held-at h g below d) (group-held _ (h .readable 
 
 -- ---- a row of commands
 
-module _ (e : Entry) where
-  -- one command more
-  answers-snoc : (Ls : List (List ℕ)) (es : List Entry) → answers Ls (es ++ e ∷ []) ≡ answers Ls es ++ answerTo (groupsAfterAll Ls es) e ∷ []
-  unfolding answers groupsAfterAll
-  answers-snoc Ls [] = refl
-  answers-snoc Ls (f ∷ es) = ap (λ (r : List Pushes). answerTo Ls f ∷ r) (answers-snoc (groupsAfter Ls f) es)
-
-  groupsAfterAll-snoc : (Ls : List (List ℕ)) (es : List Entry) → groupsAfterAll Ls (es ++ e ∷ []) ≡ groupsAfter (groupsAfterAll Ls es) e
-  unfolding groupsAfterAll
-  groupsAfterAll-snoc Ls [] = refl
-  groupsAfterAll-snoc Ls (f ∷ es) = groupsAfterAll-snoc (groupsAfter Ls f) es
-
-  after-each : (Ls : List (List ℕ)) → Each Ls → Each (groupsAfter Ls e)
-  after-each Ls each g h =
-      let at : ℕ = e .command .group in
-      let left : List ℕ = jobLevels (e .command .action) (e .target) (levelsFor Ls e) in
-      let inside : g < length Ls = omega (arith, length-set Ls at left) in
-      by-name g at
-      (λ q t.
-      let there : at < length Ls = omega arith in
-      rw (q, getD-set-same Ls at left [] there) (job-readable (e .command .action) (e .target) (levelsFor Ls e) (each at there)))
-      (λ ne t. rw (getD-set-other Ls at g left [] ne) (each g inside))
+after-each : (e : Entry) (Ls : List (List ℕ)) → Each Ls → Each (groupsAfter e Ls)
+after-each e Ls each g h =
+    let at : ℕ = e .command .group in
+    let left : List ℕ = jobLevels (e .command .action) (e .target) (levelsFor Ls e) in
+    let inside : g < length Ls = omega (arith, length-set Ls at left) in
+    by-name g at
+    (λ q t.
+    let there : at < length Ls = omega arith in
+    rw (q, getD-set-same Ls at left [] there) (job-readable (e .command .action) (e .target) (levelsFor Ls e) (each at there)))
+    (λ ne t. rw (getD-set-other Ls at g left [] ne) (each g inside))
 
 pub answers-length : (Ls : List (List ℕ)) (es : List Entry) → length (answers Ls es) ≡ length es
 unfolding answers
-answers-length Ls [] = refl
-answers-length Ls (e ∷ es) = ap suc (answers-length (groupsAfter Ls e) es)
+answers-length Ls es = turns.answers-length _ _ es Ls
 
 groupsAfterAll-length : (Ls : List (List ℕ)) (es : List Entry) → length (groupsAfterAll Ls es) ≡ length Ls
 unfolding groupsAfterAll
-groupsAfterAll-length Ls [] = refl
-groupsAfterAll-length Ls (e ∷ es) = groupsAfterAll-length (groupsAfter Ls e) es ∙ length-set Ls (e .command .group) _
+groupsAfterAll-length Ls es =
+    left-keeps groupsAfter (λ (Ms : List (List ℕ)). length Ms ≡ length Ls) (λ e Ms same. length-set Ms (e .command .group) _ ∙ same) es Ls refl
 
 groupsAfterAll-each : (Ls : List (List ℕ)) (es : List Entry) → Each Ls → Each (groupsAfterAll Ls es)
 unfolding groupsAfterAll
-groupsAfterAll-each Ls [] each = each
-groupsAfterAll-each Ls (e ∷ es) each = groupsAfterAll-each (groupsAfter Ls e) es (after-each e Ls each)
+groupsAfterAll-each Ls es = left-keeps groupsAfter Each after-each es Ls
 
 -- whatever commands of a sheet without fault are done, the groups that they leave each have a permutation
 pub groupsAfterAll-held : (c : Contents) (es : List Entry) → Valid c → GroupsHeld (groupsOf (groupsAfterAll (c .groups) es))
@@ -111,33 +100,30 @@ groupsAfterAll-held c es v =
 
 -- ---- the loop over the commands of a sheet
 
-abbrev doneOf : Sheet → ℕ → List Entry
-doneOf sheet i = take i (contentsOf sheet .entries)
-
 -- after i commands
-pub record Progress (sheet : Sheet) (said : List Pushes) (groups : Groups) (i : ℕ) : Type 0 where
-  pub within : i ≤ sheet .count
-  pub most : sheet .count ≤ 1000
-  pub answered : said ≡ padded 1000 noAnswer (answers (contentsOf sheet .groups) (doneOf sheet i))
-  pub left : groups ≡ groupsOf (groupsAfterAll (contentsOf sheet .groups) (doneOf sheet i))
+abbrev pub Progress : Sheet → List Pushes → Groups → ℕ → Type 0
+Progress sheet said groups i =
+    InTurn answerTo groupsAfter groupsOf (contentsOf sheet .entries) (contentsOf sheet .groups) (replicate 1000 noAnswer) groups said i
 
 module _ {sheet : Sheet} (h : SheetHeld sheet) where
   sheet-count : sheet .count ≡ length (contentsOf sheet .entries)
   unfolding heldOf
   sheet-count = ap (λ (s : Sheet). s .count) (h .held)
 
+  pub count-few : sheet .count ≤ 1000
+  count-few = omega (arith, sheet-count, h .valid .short)
+
   pub start : Progress sheet (replicate 1000 noAnswer) (sheet .groups) 0
-  unfolding heldOf answers groupsAfterAll
-  start = record {
-    within = omega arith;
-    most = omega (arith, sheet-count, h .valid .short);
-    answered = sym (padded-none 1000 noAnswer);
-    left = ap (λ (s : Sheet). s .groups) (h .held);
-  }
+  unfolding heldOf
+  start = turn-none (omega (arith, h .valid .short, length-replicate 1000 noAnswer)) (ap (λ (s : Sheet). s .groups) (h .held))
 
   module _ {said : List Pushes} {groups : Groups} {i : ℕ} (v : Progress sheet said groups i) where
+    left-is : groups ≡ groupsOf (groupsAfterAll (contentsOf sheet .groups) (take i (contentsOf sheet .entries)))
+    unfolding groupsAfterAll
+    left-is = v .left
+
     pub progress-held : GroupsHeld groups
-    progress-held = rw (v .left) (groupsAfterAll-held (contentsOf sheet) (doneOf sheet i) (h .valid))
+    progress-held = rw left-is (groupsAfterAll-held (contentsOf sheet) (take i (contentsOf sheet .entries)) (h .valid))
 
     module _ (more : i < sheet .count) (d : Entry) where
       abbrev next : Entry
@@ -156,15 +142,13 @@ module _ {sheet : Sheet} (h : SheetHeld sheet) where
             let named = h .valid .named i there in
             let same : getD (contentsOf sheet .entries) i noEntry ≡ next = getD-any (contentsOf sheet .entries) i noEntry d there ∙ next-is in
             let count : groups .count ≡ length (contentsOf sheet .groups) =
-            ap (λ (x : Groups). x .count) (v .left) ∙ groupsAfterAll-length (contentsOf sheet .groups) (doneOf sheet i) in
+            ap (λ (x : Groups). x .count) left-is ∙ groupsAfterAll-length (contentsOf sheet .groups) (take i (contentsOf sheet .entries)) in
             rw (count, is) (rw same at named, h .valid .few)
 
         pub step : (z : Group) {r : Acted} → r ≡ acted (next .command .action) (next .target) (levelsOf (getD (groups .list) g z))
             → Progress sheet (set said i (r .answer)) (record { count = groups .count; list = set (groups .list) g (r .group) }) (i + 1)
         step z {r} e =
-            let Gs : List (List ℕ) = contentsOf sheet .groups in
-            let es : List Entry = contentsOf sheet .entries in
-            let Ls : List (List ℕ) = groupsAfterAll Gs (take i es) in
+            let Ls : List (List ℕ) = leftBy groupsAfter (take i (contentsOf sheet .entries)) (contentsOf sheet .groups) in
             let inside : g < length Ls = omega (arith, index-below .0, ap (λ (x : Groups). x .count) (v .left)) in
             let levels : levelsOf (getD (groups .list) g z) ≡ levelsFor Ls next =
             ap (λ (x : Groups). levelsOf (getD (x .list) g z)) (v .left)
@@ -172,24 +156,16 @@ module _ {sheet : Sheet} (h : SheetHeld sheet) where
             ∙ group-levels (getD Ls g [])
             ∙ ap (λ (k : ℕ). getD Ls k []) is in
             let did : r ≡ acted (next .command .action) (next .target) (levelsFor Ls next) = e ∙ rw levels in
-            let more-done : take (i + 1) es ≡ take i es ++ next ∷ [] = rw (add-one, take-suc es i d there, next-is) in
-            let long : length (answers Gs (take i es)) ≡ i = answers-length Gs (take i es) ∙ length-take-le i es (omega (arith, there)) in
-            record {
-              within = omega arith;
-              most = v .most;
-              answered = rw (more-done, answers-snoc next Gs (take i es), did, v .answered)
-                  (padded-snoc 1000 noAnswer i (answers Gs (take i es)) (answerTo Ls next) long (omega (arith, v .most)));
-              left = rw (more-done, groupsAfterAll-snoc next Gs (take i es), did, v .left, ← is) (groups-set Ls g inside _);
-            }
+            turn-more v d there (rw (next-is, did)) (rw (next-is, did, v .left, ← is) (groups-set Ls g inside _))
 
     pub end : {ranks : List ℕ} → sheet .count ≤ i → ranks ≡ padded 64 0 (map rankOf (groupsIn groups))
         → _≡_ {A = Outcome} (record { count = sheet .count; answers = said; groups = groups; ranks = ranks }) (outcomeOf (contentsOf sheet))
-    unfolding outcomeOf
+    unfolding outcomeOf answers groupsAfterAll
     end {ranks} all e =
         let es : List Entry = contentsOf sheet .entries in
         let Ls : List (List ℕ) = groupsAfterAll (contentsOf sheet .groups) es in
-        let whole : take i es ≡ es = take-all i es (omega (arith, sheet-count)) in
-        let answers-are : said ≡ padded 1000 noAnswer (answers (contentsOf sheet .groups) es) = rw whole at (v .answered) in
-        let groups-are : groups ≡ groupsOf Ls = rw whole at (v .left) in
+        let done : length es ≤ i = omega (arith, sheet-count) in
+        let answers-are = row-all 1000 noAnswer (v .answered) done in
+        let groups-are : groups ≡ groupsOf Ls = turn-left v done in
         let ranks-are : ranks ≡ padded 64 0 (map rankOf Ls) = e ∙ rw (groups-are, groups-back Ls) in
         λ k. record { count = sheet-count k; answers = answers-are k; groups = groups-are k; ranks = ranks-are k }

@@ -1,9 +1,10 @@
 -- Working through a sheet: what each command answers, and the levels that are left. Assumes nothing.
-use mathlib.Core.List.{List, [], _∷_, map}
+use mathlib.Core.List.{List, [], map}
 use Prim.Native.Nat.{ℕ}
 use lib.ListN.{length, getD, set}
 use Rattle.theory.specs.Rank.{rank}
 use Rattle.theory.specs.Levels.{permutationOf}
+use Rattle.theory.specs.InTurn.{leftBy, answersTo}
 use Rattle.theory.specs.CountUp.{callLevels}
 use Rattle.permutation.specs.declared.answers.Permutation.{Permutation}
 use Rattle.charge.specs.Answers.{counted}
@@ -36,20 +37,18 @@ abbrev pub levelsFor : List (List ℕ) → Entry → List ℕ
 levelsFor groups e = getD groups (e .command .group) []
 
 -- "each command is done or sent back by itself": its answer, and all groups after it
-abbrev pub answerTo : List (List ℕ) → Entry → Pushes
-answerTo groups e = jobAnswer (e .command .action) (e .target) (levelsFor groups e)
+abbrev pub answerTo : Entry → List (List ℕ) → Pushes
+answerTo e groups = jobAnswer (e .command .action) (e .target) (levelsFor groups e)
 
-abbrev pub groupsAfter : List (List ℕ) → Entry → List (List ℕ)
-groupsAfter groups e = set groups (e .command .group) (jobLevels (e .command .action) (e .target) (levelsFor groups e))
+abbrev pub groupsAfter : Entry → List (List ℕ) → List (List ℕ)
+groupsAfter e groups = set groups (e .command .group) (jobLevels (e .command .action) (e .target) (levelsFor groups e))
 
 -- "and the next follows": the answers of a row of commands, and the groups that they leave
 unfoldable pub answers : List (List ℕ) → List Entry → List Pushes
-answers groups [] = []
-answers groups (e ∷ es) = answerTo groups e ∷ answers (groupsAfter groups e) es
+answers groups es = answersTo answerTo groupsAfter es groups
 
 unfoldable pub groupsAfterAll : List (List ℕ) → List Entry → List (List ℕ)
-groupsAfterAll groups [] = groups
-groupsAfterAll groups (e ∷ es) = groupsAfterAll (groupsAfter groups e) es
+groupsAfterAll groups es = leftBy groupsAfter es groups
 
 -- the rank of the permutation of a group's levels
 abbrev pub rankOf : List ℕ → ℕ

@@ -2,7 +2,7 @@
 use Prim.Native.Nat.{_-_, _<_}
 use native.Mathlib.Omega.{arith}
 use borrow.Author.Needs.{needs}
-use Rattle.work.proofs.Working.{group-at-held, Progress, start, progress-held, index-below, step, end}
+use Rattle.work.proofs.Working.{group-at-held, Progress, count-few, start, progress-held, index-below, step, end}
 use Rattle.work.proofs.acting.work.Statement.{statement}
 use Rattle.work.proofs.acting.work.Tie as tie
 
@@ -22,7 +22,7 @@ mul-entry : tie.Need-mul-entry Inv-loop μ-loop
 mul-entry c = search needs
 
 element-copy-out-entry : tie.Need-element-copy-out-entry Inv-loop μ-loop
-element-copy-out-entry c = search needs
+element-copy-out-entry c = let few = count-few (c .before .before .before .before .pre) in omega arith
 
 wide-requires : tie.Need-wide-requires Inv-loop μ-loop
 wide-requires c κs = search needs
@@ -50,7 +50,10 @@ mul-answers : tie.Need-mul-answers Inv-loop μ-loop
 mul-answers c = search needs
 
 array-set-from-answers : tie.Need-array-set-from-answers Inv-loop μ-loop
-array-set-from-answers c = search needs
+array-set-from-answers c =
+    let at = c .before .before .before .before .before .before .before .before .before in
+    let few = count-few (at .before .before .before .pre) in
+    omega arith
 
 mul-left : tie.Need-mul-left Inv-loop μ-loop
 mul-left c = let b = below (c .before .before .before .before) .1 in search needs
