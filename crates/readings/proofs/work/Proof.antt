@@ -26,9 +26,6 @@ part-answer-start c = search needs
 part-answer-end : tie.Need-part-answer-end Inv-loop μ-loop
 part-answer-end c = search needs
 
-answer-requires : tie.Need-answer-requires Inv-loop μ-loop
-answer-requires c κs = search needs
-
 loop-less : tie.Need-loop-less Inv-loop μ-loop
 loop-less c = search needs
 
@@ -49,7 +46,7 @@ work-spec =
     sub-answer
     part-answer-start
     part-answer-end
-    answer-requires
+    (λ c κs. tt)
     loop-less
     loop-again
     returns)

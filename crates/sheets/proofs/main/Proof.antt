@@ -13,9 +13,6 @@ abbrev μ-loop : tie.MeasureT-loop
 loop-holds : tie.Need-loop-holds Inv-loop μ-loop
 loop-holds c = search needs
 
-print-sheet-requires : tie.Need-print-sheet-requires Inv-loop μ-loop
-print-sheet-requires c κs = search needs
-
 add-i : tie.Need-add-i Inv-loop μ-loop
 add-i c = search needs
 
@@ -38,7 +35,7 @@ main-spec =
     Inv-loop
     μ-loop
     loop-holds
-    print-sheet-requires
+    (λ c κs. tt)
     add-i
     loop-less
     loop-again

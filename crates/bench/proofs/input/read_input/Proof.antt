@@ -44,9 +44,6 @@ part-count-start c = search needs
 part-count-end : tie.Need-part-count-end Inv-loop μ-loop
 part-count-end c = search needs
 
-count-requires : tie.Need-count-requires Inv-loop μ-loop
-count-requires c κs = search needs
-
 add-at : tie.Need-add-at Inv-loop μ-loop
 add-at c = search needs
 
@@ -84,7 +81,7 @@ read-input-spec =
     sub-count
     part-count-start
     part-count-end
-    count-requires
+    (λ c κs. tt)
     add-at
     loop-less
     loop-again

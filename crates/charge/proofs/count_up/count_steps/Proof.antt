@@ -44,9 +44,6 @@ add-level c = omega (arith, c .before .before .before .before .before .loop .inv
 element-copy-out-wide : tie.Need-element-copy-out-wide Inv-loop μ-loop
 element-copy-out-wide c = search needs
 
-wide-requires : tie.Need-wide-requires Inv-loop μ-loop
-wide-requires c κs = search needs
-
 sub-levels : tie.Need-sub-levels Inv-loop μ-loop
 sub-levels c = cell c .low
 
@@ -82,7 +79,7 @@ count-steps-spec =
     push-row-requires
     add-level
     element-copy-out-wide
-    wide-requires
+    (λ c κs. tt)
     sub-levels
     mul-levels
     slice-write-levels

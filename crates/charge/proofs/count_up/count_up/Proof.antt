@@ -17,14 +17,8 @@ call : (c : tie.Else1)
     Granted (entry .args .k) (entry .args .levels .now) (c .before .judge-call .result .top)
 call c = judged-granted _ _ (c .before .judge-call .ensures) (c .if1 .left)
 
-judge-call-requires : tie.Need-judge-call-requires
-judge-call-requires c κs = search needs
-
 same-length : tie.Need-same-length
 same-length c = search needs
-
-no-pushes-requires : tie.Need-no-pushes-requires
-no-pushes-requires c κs = search needs
 
 returns : tie.Need-returns
 unfolding callJudged counted callLevels
@@ -55,9 +49,6 @@ count-steps-requires c κs =
 same-length-2 : tie.Need-same-length-2
 same-length-2 c = search needs
 
-done-pushes-requires : tie.Need-done-pushes-requires
-done-pushes-requires c κs = search needs
-
 returns-2 : tie.Need-returns-2
 unfolding counted callLevels
 returns-2 c =
@@ -70,13 +61,13 @@ pub count-up-spec : {M : Type 1} → statement M
 count-up-spec =
     tie.close
     (tie.spec
-    judge-call-requires
-    no-pushes-requires
+    (λ c κs. tt)
+    (λ c κs. tt)
     same-length
     returns
     sort-cells-requires
     cast-count-steps
     count-steps-requires
-    done-pushes-requires
+    (λ c κs. tt)
     same-length-2
     returns-2)

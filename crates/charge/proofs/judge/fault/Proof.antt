@@ -1,7 +1,6 @@
 -- `charge::judge::fault` meets its contract: each test decides the number. Assumes nothing.
 use mathlib.Core.Path.{_≡_, sym, _∙_}
 use mathlib.Core.Bool.{cond}
-use borrow.Author.Needs.{needs}
 use lib.ListN.{length}
 use Rattle.theory.specs.Reasons.{done, tie}
 use Rattle.theory.specs.Refusal.{sizeOf}
@@ -9,9 +8,6 @@ use Rattle.theory.specs.Levels.{tied, readNumber}
 use Rattle.theory.proofs.Refusal.{orElse-refused}
 use Rattle.charge.proofs.judge.fault.Statement.{statement}
 use Rattle.charge.proofs.judge.fault.Tie as tie
-
-size-of-requires : tie.Need-size-of-requires
-size-of-requires c κs = search needs
 
 returns : tie.Need-returns
 unfolding readNumber
@@ -23,9 +19,6 @@ returns c =
 sized : (c : tie.Else1) → sizeOf (length (c .before .before .before .args .levels .now)) ≡ 0
 sized c = sym (c .before .size-of .ensures) ∙ c .if1 .left
 
-tied-requires : tie.Need-tied-requires
-tied-requires c κs = search needs
-
 returns-2 : tie.Need-returns-2
 unfolding readNumber
 returns-2 c = rw (sized (c .before .before), sym (c .before .tied .ensures) ∙ c .if2 .taken)
@@ -35,4 +28,4 @@ unfolding readNumber
 returns-3 c = rw (sized (c .before .before), sym (c .before .tied .ensures) ∙ c .if2 .left)
 
 pub fault-spec : {M : Type 1} → statement M
-fault-spec = tie.close (tie.spec size-of-requires returns tied-requires returns-2 returns-3)
+fault-spec = tie.close (tie.spec (λ c κs. tt) returns (λ c κs. tt) returns-2 returns-3)

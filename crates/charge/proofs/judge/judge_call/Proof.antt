@@ -19,18 +19,12 @@ faultless c = sym (c .before .fault .ensures) ∙ c .if1 .left
 abbrev call : ℕ → ℕ → Call
 call number top = record { number = number; top = top }
 
-fault-requires : tie.Need-fault-requires
-fault-requires c κs = search needs
-
 returns : tie.Need-returns
 unfolding callJudged callNumber
 returns c =
     let a = c .before .before .before .args in
     let L = a .levels .now in
     refused call (highest L) 0 (orElse-refused (readNumber L) (ceilingOf L (a .k)) (c .before .fault .ensures) (c .if1 .taken)) (c .if1 .taken)
-
-highest-requires : tie.Need-highest-requires
-highest-requires c κs = search needs
 
 cast-if2 : tie.Need-cast-if2
 cast-if2 c = search needs
@@ -55,4 +49,4 @@ returns-3 c =
 pub judge-call-spec : {M : Type 1} → statement M
 judge-call-spec =
     tie.close
-    (tie.spec fault-requires returns highest-requires cast-if2 sub-if2 returns-2 returns-3)
+    (tie.spec (λ c κs. tt) returns (λ c κs. tt) cast-if2 sub-if2 returns-2 returns-3)

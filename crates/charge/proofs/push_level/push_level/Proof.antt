@@ -39,12 +39,6 @@ refuses : (L : List ℕ) (i : ℕ) {a : Pushes} {number : ℕ} → a ≡ noPushe
 unfolding placePushes placeLevels
 refuses L i = pushes-refused 1 L (pushLevel (cellAt i (permutationOf L)) L)
 
-fault-requires : tie.Need-fault-requires
-fault-requires c κs = search needs
-
-no-pushes-requires : tie.Need-no-pushes-requires
-no-pushes-requires c κs = search needs
-
 same-length : tie.Need-same-length
 same-length c = search needs
 
@@ -53,17 +47,11 @@ returns c =
     let ne = c .before .if1 .taken in
     refuses _ _ (c .no-pushes .ensures) (place-fault _ _ (c .before .before .fault .ensures) ne) ne
 
-no-pushes-requires-2 : tie.Need-no-pushes-requires-2
-no-pushes-requires-2 c κs = search needs
-
 same-length-2 : tie.Need-same-length-2
 same-length-2 c = search needs
 
 returns-2 : tie.Need-returns-2
 returns-2 c = refuses _ _ (c .no-pushes2 .ensures) (place-low _ _ (faultless (c .before .before)) (c .before .if2 .taken)) (λ z. omega arith)
-
-no-pushes-requires-3 : tie.Need-no-pushes-requires-3
-no-pushes-requires-3 c κs = search needs
 
 same-length-3 : tie.Need-same-length-3
 same-length-3 c = search needs
@@ -72,12 +60,6 @@ returns-3 : tie.Need-returns-3
 returns-3 c =
     refuses _ _ (c .no-pushes3 .ensures)
     (place-high _ _ (faultless (c .before .before .before)) (c .before .before .if2 .left) (c .before .if3 .taken)) (λ z. omega arith)
-
-highest-requires : tie.Need-highest-requires
-highest-requires c κs = search needs
-
-no-pushes-requires-4 : tie.Need-no-pushes-requires-4
-no-pushes-requires-4 c κs = search needs
 
 same-length-4 : tie.Need-same-length-4
 same-length-4 c = search needs
@@ -97,9 +79,6 @@ sub-wide c = search needs
 array-read-wide : tie.Need-array-read-wide
 array-read-wide c = omega (arith, faultless (c .before .before .before .before .before .before .before .before) .many)
 
-wide-requires : tie.Need-wide-requires
-wide-requires c κs = search needs
-
 sub-levels : tie.Need-sub-levels
 sub-levels c = omega (arith, cell c .low)
 
@@ -111,9 +90,6 @@ mul-levels c = omega (arith, cell c .high)
 
 slice-write-levels : tie.Need-slice-write-levels
 slice-write-levels c = omega (arith, cell c .low, cell c .high)
-
-done-pushes-requires : tie.Need-done-pushes-requires
-done-pushes-requires c κs = search needs
 
 same-length-5 : tie.Need-same-length-5
 same-length-5 c = search needs
@@ -132,28 +108,28 @@ pub push-level-spec : {M : Type 1} → statement M
 push-level-spec =
     tie.close
     (tie.spec
-    fault-requires
-    no-pushes-requires
+    (λ c κs. tt)
+    (λ c κs. tt)
     same-length
     returns
-    no-pushes-requires-2
+    (λ c κs. tt)
     same-length-2
     returns-2
-    no-pushes-requires-3
+    (λ c κs. tt)
     same-length-3
     returns-3
-    highest-requires
-    no-pushes-requires-4
+    (λ c κs. tt)
+    (λ c κs. tt)
     same-length-4
     returns-4
     sort-cells-requires
     sub-wide
     array-read-wide
-    wide-requires
+    (λ c κs. tt)
     add-levels
     sub-levels
     mul-levels
     slice-write-levels
-    done-pushes-requires
+    (λ c κs. tt)
     same-length-5
     returns-5)

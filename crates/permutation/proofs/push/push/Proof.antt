@@ -10,12 +10,6 @@ use borrow.Author.Needs.{needs}
 use Rattle.permutation.proofs.push.push.Statement.{statement}
 use Rattle.permutation.proofs.push.push.Tie as tie
 
-check-requires : tie.Need-check-requires
-check-requires c κs = search needs
-
-no-permutation-requires : tie.Need-no-permutation-requires
-no-permutation-requires c κs = search needs
-
 returns : tie.Need-returns
 returns c =
     let at = c .before .before in
@@ -26,16 +20,10 @@ returns c =
 sound-now : (c : tie.Else1) → Sound (c .before .before .args .permutation)
 sound-now c = check-sound _ (c .before .check .ensures) (search needs) (c .if1 .left)
 
-no-permutation-requires-2 : tie.Need-no-permutation-requires-2
-no-permutation-requires-2 c κs = search needs
-
 returns-2 : tie.Need-returns-2
 returns-2 c =
     let at = c .before .before in
     c .no-permutation2 .ensures ∙ push-outside (at .before .before .args .permutation) (at .before .before .args .place) (sound-now at .fault) (inl (c .before .if2 .taken))
-
-no-permutation-requires-3 : tie.Need-no-permutation-requires-3
-no-permutation-requires-3 c κs = search needs
 
 returns-3 : tie.Need-returns-3
 returns-3 c =
@@ -59,12 +47,12 @@ pub push-spec : {M : Type 1} → statement M
 push-spec =
     tie.close
     (tie.spec
-    check-requires
-    no-permutation-requires
+    (λ c κs. tt)
+    (λ c κs. tt)
     returns
-    no-permutation-requires-2
+    (λ c κs. tt)
     returns-2
-    no-permutation-requires-3
+    (λ c κs. tt)
     returns-3
     pushed-row-requires
     returns-4)

@@ -12,12 +12,6 @@ use Rattle.permutation.proofs.Checking.{check-refused, check-names}
 use Rattle.permutation.proofs.validity.check.Statement.{statement}
 use Rattle.permutation.proofs.validity.check.Tie as tie
 
-size-of-requires : tie.Need-size-of-requires
-size-of-requires c κs = search needs
-
-without-spots-requires : tie.Need-without-spots-requires
-without-spots-requires c κs = search needs
-
 returns : tie.Need-returns
 returns c =
     let at = c .before .before in
@@ -43,9 +37,6 @@ returns-2 c =
     let zeros = c .before .before .before in
     c .spots-of .ensures ∙ check-names _ (sized (zeros .before .before)) (sym (zeros .all-zero .ensures) ∙ c .before .before .if2 .taken)
 
-without-spots-requires-2 : tie.Need-without-spots-requires-2
-without-spots-requires-2 c κs = search needs
-
 returns-3 : tie.Need-returns-3
 returns-3 c =
     let zeros = c .before .before in
@@ -58,11 +49,11 @@ pub check-spec : {M : Type 1} → statement M
 check-spec =
     tie.close
     (tie.spec
-    size-of-requires
-    without-spots-requires
+    (λ c κs. tt)
+    (λ c κs. tt)
     returns
     all-zero-requires
     spots-of-requires
     returns-2
-    without-spots-requires-2
+    (λ c κs. tt)
     returns-3)

@@ -23,32 +23,20 @@ loop-holds c = (omega arith, met-start (c .args .n))
 element-copy-out-wide : tie.Need-element-copy-out-wide Inv-loop μ-loop
 element-copy-out-wide c = search needs
 
-wide-requires : tie.Need-wide-requires Inv-loop μ-loop
-wide-requires c κs = search needs
-
 -- the turn at the name that was read
 turn : (c : tie.After-wide Inv-loop μ-loop) → let at = c .before .before .before in Turn (at .before .args .n) (at .loop .i) (c .wide .result) (at .before .args .cells .now)
 turn c =
     let at = c .before .before .before in
     record { few = at .before .pre .0; long = at .before .pre .1; more = c .before .before .loop-test .taken; is = c .wide .ensures }
 
-without-spots-requires : tie.Need-without-spots-requires Inv-loop μ-loop
-without-spots-requires c κs = search needs
-
 returns : tie.Need-returns Inv-loop μ-loop
 returns c = c .without-spots .ensures ∙ met-outside (turn (c .before .before)) (λ b. omega (arith, b .0))
-
-without-spots-requires-2 : tie.Need-without-spots-requires-2 Inv-loop μ-loop
-without-spots-requires-2 c κs = search needs
 
 returns-2 : tie.Need-returns-2 Inv-loop μ-loop
 returns-2 c = c .without-spots2 .ensures ∙ met-outside (turn (c .before .before .before)) (λ b. omega (arith, b .1))
 
 array-read-if3 : tie.Need-array-read-if3 Inv-loop μ-loop
 array-read-if3 c = search needs
-
-without-spots-requires-3 : tie.Need-without-spots-requires-3 Inv-loop μ-loop
-without-spots-requires-3 c κs = search needs
 
 returns-3 : tie.Need-returns-3 Inv-loop μ-loop
 returns-3 c =
@@ -100,13 +88,13 @@ spots-of-spec =
     μ-loop
     loop-holds
     element-copy-out-wide
-    wide-requires
-    without-spots-requires
+    (λ c κs. tt)
+    (λ c κs. tt)
     returns
-    without-spots-requires-2
+    (λ c κs. tt)
     returns-2
     array-read-if3
-    without-spots-requires-3
+    (λ c κs. tt)
     returns-3
     ones-below-requires
     array-write-spots

@@ -31,9 +31,6 @@ sub-wide-digit-2 c = search needs
 array-read-wide-digit : tie.Need-array-read-wide-digit Inv-loop μ-loop
 array-read-wide-digit c = search needs
 
-wide-digit-requires : tie.Need-wide-digit-requires Inv-loop μ-loop
-wide-digit-requires c κs = search needs
-
 add-m : tie.Need-add-m Inv-loop μ-loop
 add-m c = search needs
 
@@ -89,7 +86,7 @@ row-value-spec =
     sub-wide-digit
     sub-wide-digit-2
     array-read-wide-digit
-    wide-digit-requires
+    (λ c κs. tt)
     add-m
     mul-rank
     add-rank

@@ -2,7 +2,6 @@
 use mathlib.Core.Path.{_≡_, sym, ap, _∙_}
 use mathlib.Core.List.{[]}
 use native.Mathlib.Omega.{arith}
-use borrow.Author.Needs.{needs}
 use borrow.Author.Tests.{lt-ltb, le-ltb}
 use Rattle.theory.specs.Refusal.{sizeOf}
 use Rattle.theory.specs.Factorial.{factorial}
@@ -16,12 +15,6 @@ use Rattle.ranking.proofs.Unranking.{unrank-record}
 use Rattle.ranking.proofs.unrank.unrank.Statement.{statement}
 use Rattle.ranking.proofs.unrank.unrank.Tie as tie
 
-size-of-requires : tie.Need-size-of-requires
-size-of-requires c κs = search needs
-
-no-permutation-requires : tie.Need-no-permutation-requires
-no-permutation-requires c κs = search needs
-
 returns : tie.Need-returns
 unfolding unranked unrankNumber
 returns c =
@@ -34,15 +27,9 @@ returns c =
 sized : (c : tie.Else1) → sizeOf (c .before .before .args .n) ≡ 0
 sized c = sym (c .before .size-of .ensures) ∙ c .if1 .left
 
-factorial-requires : tie.Need-factorial-requires
-factorial-requires c κs = search needs
-
 -- the limit that the rank is compared with
 limit : (c : tie.After-factorial) → c .factorial .result ≡ factorial (c .before .before .before .args .n)
 limit c = c .factorial .ensures ∙ within-is (c .before .before .before .args .n) (size-range _ (sized (c .before)) .1)
-
-no-permutation-requires-2 : tie.Need-no-permutation-requires-2
-no-permutation-requires-2 c κs = search needs
 
 returns-2 : tie.Need-returns-2
 unfolding unranked unrankNumber
@@ -69,11 +56,11 @@ pub unrank-spec : {M : Type 1} → statement M
 unrank-spec =
     tie.close
     (tie.spec
-    size-of-requires
-    no-permutation-requires
+    (λ c κs. tt)
+    (λ c κs. tt)
     returns
-    factorial-requires
-    no-permutation-requires-2
+    (λ c κs. tt)
+    (λ c κs. tt)
     returns-2
     filled-row-requires
     returns-3)

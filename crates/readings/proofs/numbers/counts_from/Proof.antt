@@ -19,9 +19,6 @@ mul-narrow32 c = search needs
 element-copy-out-narrow32 : tie.Need-element-copy-out-narrow32 Inv-loop μ-loop
 element-copy-out-narrow32 c = search needs
 
-narrow32-requires : tie.Need-narrow32-requires Inv-loop μ-loop
-narrow32-requires c κs = search needs
-
 mul-counts : tie.Need-mul-counts Inv-loop μ-loop
 mul-counts c = search needs
 
@@ -49,7 +46,7 @@ counts-from-spec =
     loop-holds
     mul-narrow32
     element-copy-out-narrow32
-    narrow32-requires
+    (λ c κs. tt)
     mul-counts
     array-write-counts
     add-i

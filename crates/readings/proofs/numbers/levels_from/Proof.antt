@@ -19,9 +19,6 @@ mul-narrow16 c = search needs
 element-copy-out-narrow16 : tie.Need-element-copy-out-narrow16 Inv-loop μ-loop
 element-copy-out-narrow16 c = search needs
 
-narrow16-requires : tie.Need-narrow16-requires Inv-loop μ-loop
-narrow16-requires c κs = search needs
-
 mul-levels : tie.Need-mul-levels Inv-loop μ-loop
 mul-levels c = search needs
 
@@ -49,7 +46,7 @@ levels-from-spec =
     loop-holds
     mul-narrow16
     element-copy-out-narrow16
-    narrow16-requires
+    (λ c κs. tt)
     mul-levels
     array-write-levels
     add-i

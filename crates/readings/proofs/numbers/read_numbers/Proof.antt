@@ -17,15 +17,6 @@ loop-holds c = search needs
 shared-slice-read-digit : tie.Need-shared-slice-read-digit Inv-loop μ-loop
 shared-slice-read-digit c = search needs
 
-digit-requires : tie.Need-digit-requires Inv-loop μ-loop
-digit-requires c κs = search needs
-
-add-digit-requires : tie.Need-add-digit-requires Inv-loop μ-loop
-add-digit-requires c κs = search needs
-
-ended-requires : tie.Need-ended-requires Inv-loop μ-loop
-ended-requires c κs = search needs
-
 add-i : tie.Need-add-i Inv-loop μ-loop
 add-i c = search needs
 
@@ -46,9 +37,9 @@ read-numbers-spec =
     μ-loop
     loop-holds
     shared-slice-read-digit
-    digit-requires
-    add-digit-requires
-    ended-requires
+    (λ c κs. tt)
+    (λ c κs. tt)
+    (λ c κs. tt)
     add-i
     loop-less
     loop-again

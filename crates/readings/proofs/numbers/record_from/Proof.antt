@@ -31,9 +31,6 @@ mul-narrow8 c = search needs
 element-copy-out-narrow8 : tie.Need-element-copy-out-narrow8 Inv-loop μ-loop
 element-copy-out-narrow8 c = search needs
 
-narrow8-requires : tie.Need-narrow8-requires Inv-loop μ-loop
-narrow8-requires c κs = search needs
-
 array-write-cells : tie.Need-array-write-cells Inv-loop μ-loop
 array-write-cells c = search needs
 
@@ -62,7 +59,7 @@ record-from-spec =
     add-narrow8-2
     mul-narrow8
     element-copy-out-narrow8
-    narrow8-requires
+    (λ c κs. tt)
     array-write-cells
     add-i
     loop-less

@@ -19,17 +19,11 @@ returns-2 c = search needs
 loop-holds : tie.Need-loop-holds Inv-loop μ-loop
 loop-holds c = search needs
 
-levels-from-requires : tie.Need-levels-from-requires Inv-loop μ-loop
-levels-from-requires c κs = search needs
-
 part-list-start : tie.Need-part-list-start Inv-loop μ-loop
 part-list-start c = search needs
 
 part-list-end : tie.Need-part-list-end Inv-loop μ-loop
 part-list-end c = search needs
-
-stored-and-read-requires : tie.Need-stored-and-read-requires Inv-loop μ-loop
-stored-and-read-requires c κs = search needs
 
 add-s : tie.Need-add-s Inv-loop μ-loop
 add-s c = search needs
@@ -52,10 +46,10 @@ on-symbols-spec =
     returns
     returns-2
     loop-holds
-    levels-from-requires
+    (λ c κs. tt)
     part-list-start
     part-list-end
-    stored-and-read-requires
+    (λ c κs. tt)
     add-s
     loop-less
     loop-again

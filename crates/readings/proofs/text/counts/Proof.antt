@@ -19,9 +19,6 @@ mul-field c = search needs
 element-copy-out-field : tie.Need-element-copy-out-field Inv-loop μ-loop
 element-copy-out-field c = search needs
 
-field-requires : tie.Need-field-requires Inv-loop μ-loop
-field-requires c κs = search needs
-
 add-i : tie.Need-add-i Inv-loop μ-loop
 add-i c = search needs
 
@@ -43,7 +40,7 @@ counts-spec =
     loop-holds
     mul-field
     element-copy-out-field
-    field-requires
+    (λ c κs. tt)
     add-i
     loop-less
     loop-again

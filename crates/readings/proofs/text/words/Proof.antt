@@ -17,9 +17,6 @@ loop-holds c = search needs
 shared-slice-read-put : tie.Need-shared-slice-read-put Inv-loop μ-loop
 shared-slice-read-put c = search needs
 
-put-requires : tie.Need-put-requires Inv-loop μ-loop
-put-requires c κs = search needs
-
 add-i : tie.Need-add-i Inv-loop μ-loop
 add-i c = search needs
 
@@ -40,7 +37,7 @@ words-spec =
     μ-loop
     loop-holds
     shared-slice-read-put
-    put-requires
+    (λ c κs. tt)
     add-i
     loop-less
     loop-again

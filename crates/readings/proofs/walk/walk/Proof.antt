@@ -10,17 +10,8 @@ Inv-loop text₀ at steps every stand₀ to₀ k₀ text stand to k = k ≤ step
 abbrev μ-loop : tie.MeasureT-loop
 μ-loop text₀ at steps every stand₀ to₀ k₀ text stand to k = steps - k
 
-begin-requires : tie.Need-begin-requires Inv-loop μ-loop
-begin-requires c κs = search needs
-
 loop-holds : tie.Need-loop-holds Inv-loop μ-loop
 loop-holds c = search needs
-
-step-line-requires : tie.Need-step-line-requires Inv-loop μ-loop
-step-line-requires c κs = search needs
-
-advance-requires : tie.Need-advance-requires Inv-loop μ-loop
-advance-requires c κs = search needs
 
 add-k : tie.Need-add-k Inv-loop μ-loop
 add-k c = search needs
@@ -31,9 +22,6 @@ loop-less c = search needs
 loop-again : tie.Need-loop-again Inv-loop μ-loop
 loop-again c = search needs
 
-last-line-requires : tie.Need-last-line-requires Inv-loop μ-loop
-last-line-requires c κs = search needs
-
 returns : tie.Need-returns Inv-loop μ-loop
 returns c = search needs
 
@@ -43,12 +31,12 @@ walk-spec =
     (tie.spec
     Inv-loop
     μ-loop
-    begin-requires
+    (λ c κs. tt)
     loop-holds
-    step-line-requires
-    advance-requires
+    (λ c κs. tt)
+    (λ c κs. tt)
     add-k
     loop-less
     loop-again
-    last-line-requires
+    (λ c κs. tt)
     returns)

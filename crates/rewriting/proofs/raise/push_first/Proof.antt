@@ -30,9 +30,6 @@ add-level c = let v = c .before .loop .inv in omega (arith, v .last, v .ready .r
 element-copy-out-wide : tie.Need-element-copy-out-wide Inv-loop μ-loop
 element-copy-out-wide c = search needs
 
-wide-requires : tie.Need-wide-requires Inv-loop μ-loop
-wide-requires c κs = search needs
-
 sub-levels : tie.Need-sub-levels Inv-loop μ-loop
 sub-levels c = cell c .0
 
@@ -64,7 +61,7 @@ push-first-spec =
     sub-i
     add-level
     element-copy-out-wide
-    wide-requires
+    (λ c κs. tt)
     sub-levels
     mul-levels
     slice-write-levels

@@ -16,17 +16,11 @@ use Rattle.rewriting.proofs.raise.raise.Tie as tie
 room : (c : tie.Else1) → c .before .highest .result + c .before .before .before .before .args .r ≤ maxLevel
 room c = omega (arith, c .if1 .left, c .before .highest .ok)
 
-highest-requires : tie.Need-highest-requires
-highest-requires c κs = search needs
-
 cast-if1 : tie.Need-cast-if1
 cast-if1 c = search needs
 
 sub-if1 : tie.Need-sub-if1
 sub-if1 c = search needs
-
-no-pushes-requires : tie.Need-no-pushes-requires
-no-pushes-requires c κs = search needs
 
 same-length : tie.Need-same-length
 same-length c = search needs
@@ -48,9 +42,6 @@ push-first-requires c κs =
 cast-done-pushes : tie.Need-cast-done-pushes
 cast-done-pushes c = omega (arith, c .before .before .before .before .before .before .before .before .pre .few)
 
-done-pushes-requires : tie.Need-done-pushes-requires
-done-pushes-requires c κs = search needs
-
 same-length-2 : tie.Need-same-length-2
 same-length-2 c = search needs
 
@@ -67,14 +58,14 @@ pub raise-spec : {M : Type 1} → statement M
 raise-spec =
     tie.close
     (tie.spec
-    highest-requires
+    (λ c κs. tt)
     cast-if1
     sub-if1
-    no-pushes-requires
+    (λ c κs. tt)
     same-length
     returns
     push-first-requires
     cast-done-pushes
-    done-pushes-requires
+    (λ c κs. tt)
     same-length-2
     returns-2)

@@ -1,7 +1,6 @@
 -- `rewriting::rewrite::judge` meets its contract: each test decides the number. Assumes nothing.
 use mathlib.Core.Path.{_≡_, sym, _∙_}
 use native.Mathlib.Omega.{arith}
-use borrow.Author.Needs.{needs}
 use lib.ListN.{length}
 use Rattle.theory.specs.Refusal.{sizeOf}
 use Rattle.theory.proofs.Refusal.{size-range}
@@ -17,14 +16,8 @@ group c = sym (c .before .size-of .ensures) ∙ c .if1 .left
 size : (c : tie.Else2) → sizeOf (c .before .before .before .before .before .args .target .n) ≡ 0
 size c = sym (c .before .size-of2 .ensures) ∙ c .if2 .left
 
-size-of-requires : tie.Need-size-of-requires
-size-of-requires c κs = search needs
-
 returns : tie.Need-returns
 returns c = judge-group _ _ _ (c .before .size-of .ensures) (c .if1 .taken)
-
-size-of-requires-2 : tie.Need-size-of-requires-2
-size-of-requires-2 c κs = search needs
 
 returns-2 : tie.Need-returns-2
 returns-2 c = judge-size _ _ _ (group (c .before .before)) (c .before .size-of2 .ensures) (c .if2 .taken)
@@ -44,17 +37,11 @@ returns-4 c =
     let past = c .before .before .before in
     judge-short _ _ _ (group (past .before .before)) (size past) (c .before .if3 .left) (omega (arith, c .if4 .taken))
 
-check-requires : tie.Need-check-requires
-check-requires c κs = search needs
-
 returns-5 : tie.Need-returns-5
 returns-5 c =
     let past = c .before .before .before .before .before in
     judge-muddle _ _ _ (group (past .before .before)) (size past) (c .before .before .before .if3 .left) (c .before .before .if4 .left)
     (check-number _ (c .before .check .ensures)) (c .if5 .taken)
-
-fault-requires : tie.Need-fault-requires
-fault-requires c κs = search needs
 
 returns-6 : tie.Need-returns-6
 returns-6 c =
@@ -68,14 +55,14 @@ pub judge-spec : {M : Type 1} → statement M
 judge-spec =
     tie.close
     (tie.spec
-    size-of-requires
+    (λ c κs. tt)
     returns
-    size-of-requires-2
+    (λ c κs. tt)
     returns-2
     returns-3
     sub-if4
     returns-4
-    check-requires
+    (λ c κs. tt)
     returns-5
-    fault-requires
+    (λ c κs. tt)
     returns-6)

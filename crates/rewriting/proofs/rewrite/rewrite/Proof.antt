@@ -33,12 +33,6 @@ number c =
     let j = known c in
     sorted-number j (sorted-row _ (j .readable .many) (c .before .before .before .before .sort-cells .ensures)) (c .rewrite-number .ensures)
 
-judge-requires : tie.Need-judge-requires
-judge-requires c κs = search needs
-
-no-pushes-requires : tie.Need-no-pushes-requires
-no-pushes-requires c κs = search needs
-
 same-length : tie.Need-same-length
 same-length c = search needs
 
@@ -93,8 +87,8 @@ pub rewrite-spec : {M : Type 1} → statement M
 rewrite-spec =
     tie.close
     (tie.spec
-    judge-requires
-    no-pushes-requires
+    (λ c κs. tt)
+    (λ c κs. tt)
     same-length
     returns
     sort-cells-requires

@@ -15,9 +15,6 @@ Inv-loop levels₀ counts numbers₀ pushes₀ i₀ levels numbers pushes i = Ma
 abbrev μ-loop : tie.MeasureT-loop
 μ-loop levels₀ counts numbers₀ pushes₀ i₀ levels numbers pushes i = length counts - i
 
-no-pushes-requires : tie.Need-no-pushes-requires Inv-loop μ-loop
-no-pushes-requires c κs = search needs
-
 returns : tie.Need-returns Inv-loop μ-loop
 returns c =
     let b = called-refused _ _ _ (c .no-pushes .ensures) (c .before .if1 .taken) in
@@ -31,9 +28,6 @@ mul-count-up c = search needs
 
 shared-slice-read-count-up : tie.Need-shared-slice-read-count-up Inv-loop μ-loop
 shared-slice-read-count-up c = search needs
-
-count-up-requires : tie.Need-count-up-requires Inv-loop μ-loop
-count-up-requires c κs = search needs
 
 slice-write-numbers : tie.Need-slice-write-numbers Inv-loop μ-loop
 slice-write-numbers c = search needs
@@ -63,9 +57,6 @@ loop-less c = search needs
 loop-again : tie.Need-loop-again Inv-loop μ-loop
 loop-again c = made c .1
 
-done-pushes-requires : tie.Need-done-pushes-requires Inv-loop μ-loop
-done-pushes-requires c κs = search needs
-
 same-length : tie.Need-same-length Inv-loop μ-loop
 same-length c = levels-length (c .before .before .loop .inv)
 
@@ -86,18 +77,18 @@ run-calls-spec =
     (tie.spec
     Inv-loop
     μ-loop
-    no-pushes-requires
+    (λ c κs. tt)
     returns
     loop-holds
     mul-count-up
     shared-slice-read-count-up
-    count-up-requires
+    (λ c κs. tt)
     slice-write-numbers
     add-pushes
     add-i
     loop-less
     loop-again
-    done-pushes-requires
+    (λ c κs. tt)
     same-length
     same-length-2
     returns-2)

@@ -27,9 +27,6 @@ number-is : (c : tie.After-judge-call Inv-loop μ-loop)
 unfolding callJudged
 number-is c = ap (λ (a : Call). a .number) (c .judge-call .ensures)
 
-judge-call-requires : tie.Need-judge-call-requires Inv-loop μ-loop
-judge-call-requires c κs = search needs
-
 same-length : tie.Need-same-length Inv-loop μ-loop
 same-length c = search needs
 
@@ -73,12 +70,6 @@ add-counts c = let b = counted (c .before .before) in omega (arith, b .2)
 array-write-counts : tie.Need-array-write-counts Inv-loop μ-loop
 array-write-counts c = array-read-counts c
 
-larger-requires : tie.Need-larger-requires Inv-loop μ-loop
-larger-requires c κs = search needs
-
-larger-requires-2 : tie.Need-larger-requires-2 Inv-loop μ-loop
-larger-requires-2 c κs = search needs
-
 add-done : tie.Need-add-done Inv-loop μ-loop
 add-done c = search needs
 
@@ -97,9 +88,6 @@ loop-again c =
 
 read-requires : tie.Need-read-requires Inv-loop μ-loop
 read-requires c κs = search needs
-
-rank-requires : tie.Need-rank-requires Inv-loop μ-loop
-rank-requires c κs = search needs
 
 same-length-2 : tie.Need-same-length-2 Inv-loop μ-loop
 same-length-2 c =
@@ -125,7 +113,7 @@ run-levels-spec =
     (tie.spec
     Inv-loop
     μ-loop
-    judge-call-requires
+    (λ c κs. tt)
     same-length
     returns
     loop-holds
@@ -135,12 +123,12 @@ run-levels-spec =
     array-read-counts
     add-counts
     array-write-counts
-    larger-requires
-    larger-requires-2
+    (λ c κs. tt)
+    (λ c κs. tt)
     add-done
     loop-less
     loop-again
     read-requires
-    rank-requires
+    (λ c κs. tt)
     same-length-2
     returns-2)

@@ -45,17 +45,11 @@ pushed c =
 read-requires : tie.Need-read-requires
 read-requires c κs = search needs
 
-successor-requires : tie.Need-successor-requires
-successor-requires c κs = search needs
-
 sub-wide : tie.Need-sub-wide
 sub-wide c = omega (arith, bounds (c .before) .0)
 
 array-read-wide : tie.Need-array-read-wide
 array-read-wide c = let b = bounds (c .before) in omega (arith, b .0, b .2)
-
-wide-requires : tie.Need-wide-requires
-wide-requires c κs = search needs
 
 sub-before : tie.Need-sub-before
 sub-before c = inside c .0
@@ -65,9 +59,6 @@ mul-before c = omega (arith, inside c .1)
 
 slice-read-before : tie.Need-slice-read-before
 slice-read-before c = let b = inside (c .before) in omega arith
-
-push-level-requires : tie.Need-push-level-requires
-push-level-requires c κs = search needs
 
 sub-after : tie.Need-sub-after
 sub-after c = inside (c .before .before .before .before .before) .0
@@ -83,12 +74,6 @@ slice-read-after c =
 
 sub-t18 : tie.Need-sub-t18
 sub-t18 c = pushed (c .before .before .before) .raises
-
-highest-requires : tie.Need-highest-requires
-highest-requires c κs = search needs
-
-lowest-requires : tie.Need-lowest-requires
-lowest-requires c κs = search needs
 
 sub-t29 : tie.Need-sub-t29
 sub-t29 c =
@@ -108,20 +93,20 @@ step-levels-spec =
     tie.close
     (tie.spec
     read-requires
-    successor-requires
+    (λ c κs. tt)
     sub-wide
     array-read-wide
-    wide-requires
+    (λ c κs. tt)
     sub-before
     mul-before
     slice-read-before
-    push-level-requires
+    (λ c κs. tt)
     sub-after
     mul-after
     slice-read-after
     sub-t18
-    highest-requires
-    lowest-requires
+    (λ c κs. tt)
+    (λ c κs. tt)
     sub-t29
     same-length
     returns)

@@ -42,14 +42,8 @@ loop-holds c =
 next-requires : tie.Need-successor-requires-2 Inv-loop μ-loop
 next-requires c κs = search needs
 
-push-requires : tie.Need-push-requires Inv-loop μ-loop
-push-requires c κs = search needs
-
 array-read-wide : tie.Need-array-read-wide Inv-loop μ-loop
 array-read-wide c = search needs
-
-wide-requires : tie.Need-wide-requires Inv-loop μ-loop
-wide-requires c κs = search needs
 
 -- the step that a turn does
 counted : (c : tie.After-wide Inv-loop μ-loop)
@@ -101,9 +95,6 @@ loop-again c =
           (ap (λ (a : Permuted). a .permutation) (c .before .before .before .push .ensures)) _ (c .wide .ensures),
     )
 
-rank-requires : tie.Need-rank-requires Inv-loop μ-loop
-rank-requires c κs = search needs
-
 returns-2 : tie.Need-returns-2 Inv-loop μ-loop
 returns-2 c =
     let at = c .before .before in
@@ -124,9 +115,9 @@ run-steps-spec =
     returns
     loop-holds
     next-requires
-    push-requires
+    (λ c κs. tt)
     array-read-wide
-    wide-requires
+    (λ c κs. tt)
     sub-counts
     mul-counts
     array-read-counts
@@ -135,5 +126,5 @@ run-steps-spec =
     add-done
     loop-less
     loop-again
-    rank-requires
+    (λ c κs. tt)
     returns-2)

@@ -10,9 +10,6 @@ use Rattle.sheet.proofs.commands.count_at.Tie as tie
 sub-if1 : tie.Need-sub-if1
 sub-if1 c = search needs
 
-refuse-requires : tie.Need-refuse-requires
-refuse-requires c κs = search needs
-
 returns : tie.Need-returns
 unfolding entryRead
 returns c = c .refuse .ensures ∙ ap entryRead (sym (count-short _ _ _ (omega arith)))
@@ -26,9 +23,6 @@ cast-k c = search needs
 add-untargeted : tie.Need-add-untargeted
 add-untargeted c = search needs
 
-untargeted-requires : tie.Need-untargeted-requires
-untargeted-requires c κs = search needs
-
 returns-2 : tie.Need-returns-2
 unfolding entryRead
 returns-2 c =
@@ -39,10 +33,10 @@ count-at-spec =
     tie.close
     (tie.spec
     sub-if1
-    refuse-requires
+    (λ c κs. tt)
     returns
     little-requires
     cast-k
     add-untargeted
-    untargeted-requires
+    (λ c κs. tt)
     returns-2)

@@ -20,9 +20,6 @@ at-body d =
     rw (d .before .wide .ensures)
     (command-body _ _ _ (tests .before .before .if1 .left) (tests .if2 .left) (rw (d .before .wide .ensures) at (d .if3 .left)))
 
-refuse-requires : tie.Need-refuse-requires
-refuse-requires c κs = search needs
-
 returns : tie.Need-returns
 unfolding entryRead
 returns c = c .refuse .ensures ∙ ap entryRead (sym (command-end _ _ _ (c .before .if1 .taken)))
@@ -33,9 +30,6 @@ shared-slice-read-kind c = search needs
 add-place : tie.Need-add-place
 add-place c = search needs
 
-refuse-requires-2 : tie.Need-refuse-requires-2
-refuse-requires-2 c κs = search needs
-
 returns-2 : tie.Need-returns-2
 unfolding entryRead
 returns-2 c =
@@ -43,12 +37,6 @@ returns-2 c =
 
 shared-slice-read-group : tie.Need-shared-slice-read-group
 shared-slice-read-group c = search needs
-
-wide-requires : tie.Need-wide-requires
-wide-requires c κs = search needs
-
-refuse-requires-3 : tie.Need-refuse-requires-3
-refuse-requires-3 c κs = search needs
 
 returns-3 : tie.Need-returns-3
 unfolding entryRead
@@ -78,9 +66,6 @@ rewrite-at-requires c κs =
 store-at-requires : tie.Need-store-at-requires
 store-at-requires c κs = search needs
 
-refuse-requires-4 : tie.Need-refuse-requires-4
-refuse-requires-4 c κs = search needs
-
 returns-4 : tie.Need-returns-4
 unfolding entryRead
 returns-4 c = c .count-at .ensures ∙ ap entryRead (sym (at-body (c .before .before .before) ∙ body-count _ _ _ _ _ (c .before .match .keys1)))
@@ -104,15 +89,15 @@ pub read-command-spec : {M : Type 1} → statement M
 read-command-spec =
     tie.close
     (tie.spec
-    refuse-requires
+    (λ c κs. tt)
     returns
     shared-slice-read-kind
     add-place
-    refuse-requires-2
+    (λ c κs. tt)
     returns-2
     shared-slice-read-group
-    wide-requires
-    refuse-requires-3
+    (λ c κs. tt)
+    (λ c κs. tt)
     returns-3
     add-body
     mul-n
@@ -120,7 +105,7 @@ read-command-spec =
     count-at-requires
     rewrite-at-requires
     store-at-requires
-    refuse-requires-4
+    (λ c κs. tt)
     returns-4
     returns-5
     returns-6

@@ -11,9 +11,6 @@ use Rattle.sheet.proofs.commands.rewrite_at.Tie as tie
 sub-if1 : tie.Need-sub-if1
 sub-if1 c = search needs
 
-refuse-requires : tie.Need-refuse-requires
-refuse-requires c κs = search needs
-
 returns : tie.Need-returns
 unfolding entryRead
 returns c = c .refuse .ensures ∙ ap entryRead (sym (rewrite-short _ _ _ _ (omega arith) (omega arith)))
@@ -32,4 +29,4 @@ returns-2 c =
 
 pub rewrite-at-spec : {M : Type 1} → statement M
 rewrite-at-spec =
-    tie.close (tie.spec sub-if1 refuse-requires returns names-at-requires add-t6 returns-2)
+    tie.close (tie.spec sub-if1 (λ c κs. tt) returns names-at-requires add-t6 returns-2)

@@ -10,9 +10,6 @@ use Rattle.sheet.proofs.commands.store_at.Tie as tie
 sub-if1 : tie.Need-sub-if1
 sub-if1 c = search needs
 
-refuse-requires : tie.Need-refuse-requires
-refuse-requires c κs = search needs
-
 returns : tie.Need-returns
 unfolding entryRead
 returns c = c .refuse .ensures ∙ ap entryRead (sym (store-short _ _ _ (omega arith)))
@@ -29,9 +26,6 @@ little-requires-2 c κs = search needs
 add-untargeted : tie.Need-add-untargeted
 add-untargeted c = search needs
 
-untargeted-requires : tie.Need-untargeted-requires
-untargeted-requires c κs = search needs
-
 returns-2 : tie.Need-returns-2
 unfolding entryRead
 returns-2 c =
@@ -43,11 +37,11 @@ store-at-spec =
     tie.close
     (tie.spec
     sub-if1
-    refuse-requires
+    (λ c κs. tt)
     returns
     little-requires
     add-little
     little-requires-2
     add-untargeted
-    untargeted-requires
+    (λ c κs. tt)
     returns-2)

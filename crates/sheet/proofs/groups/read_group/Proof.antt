@@ -33,24 +33,12 @@ first-levels c =
     let n = at .before .before .wide .result in
     rw (c .levels-at .ensures) (take-at (numbers 2 n (a .s .now) (a .at + 1)) _ n (numbers-length (a .s .now) 2 n (a .at + 1)))
 
-refuse-requires : tie.Need-refuse-requires
-refuse-requires c κs = search needs
-
 returns : tie.Need-returns
 unfolding groupRead
 returns c = c .refuse .ensures ∙ ap groupRead (sym (group-end _ _ (c .before .if1 .taken)))
 
 shared-slice-read-wide : tie.Need-shared-slice-read-wide
 shared-slice-read-wide c = search needs
-
-wide-requires : tie.Need-wide-requires
-wide-requires c κs = search needs
-
-size-of-requires : tie.Need-size-of-requires
-size-of-requires c κs = search needs
-
-refuse-requires-2 : tie.Need-refuse-requires-2
-refuse-requires-2 c κs = search needs
 
 returns-2 : tie.Need-returns-2
 unfolding groupRead
@@ -71,9 +59,6 @@ sub-if3 c = search needs
 mul-if3 : tie.Need-mul-if3
 mul-if3 c = let few = sized-now c .few in search needs
 
-refuse-requires-3 : tie.Need-refuse-requires-3
-refuse-requires-3 c κs = search needs
-
 returns-3 : tie.Need-returns-3
 unfolding groupRead
 returns-3 c = c .refuse3 .ensures ∙ ap groupRead (sym (group-short _ _ _ (sized-now (c .before .before)) (omega arith)))
@@ -86,12 +71,6 @@ array-share-prefix-levels c = let few = sized-now (c .before .before) .few in se
 
 slice-aggregate-tied : tie.Need-slice-aggregate-tied
 slice-aggregate-tied c = rw (first-levels (c .before), numbers-length)
-
-tied-requires : tie.Need-tied-requires
-tied-requires c κs = search needs
-
-refuse-requires-4 : tie.Need-refuse-requires-4
-refuse-requires-4 c κs = search needs
 
 returns-4 : tie.Need-returns-4
 unfolding groupRead
@@ -125,23 +104,23 @@ pub read-group-spec : {M : Type 1} → statement M
 read-group-spec =
     tie.close
     (tie.spec
-    refuse-requires
+    (λ c κs. tt)
     returns
     shared-slice-read-wide
-    wide-requires
-    size-of-requires
-    refuse-requires-2
+    (λ c κs. tt)
+    (λ c κs. tt)
+    (λ c κs. tt)
     returns-2
     add-from
     sub-if3
     mul-if3
-    refuse-requires-3
+    (λ c κs. tt)
     returns-3
     levels-at-requires
     array-share-prefix-levels
     slice-aggregate-tied
-    tied-requires
-    refuse-requires-4
+    (λ c κs. tt)
+    (λ c κs. tt)
     returns-4
     mul-t7
     add-t11

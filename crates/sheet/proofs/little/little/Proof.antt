@@ -55,9 +55,6 @@ add-wide-digit c = search needs
 shared-slice-read-wide-digit : tie.Need-shared-slice-read-wide-digit Inv-loop μ-loop
 shared-slice-read-wide-digit c = search needs
 
-wide-digit-requires : tie.Need-wide-digit-requires Inv-loop μ-loop
-wide-digit-requires c κs = search needs
-
 add-value : tie.Need-add-value Inv-loop μ-loop
 add-value c = record { fits = turn-at c .fits }
 
@@ -84,7 +81,7 @@ little-spec =
     mul-value
     add-wide-digit
     shared-slice-read-wide-digit
-    wide-digit-requires
+    (λ c κs. tt)
     add-value
     loop-less
     loop-again

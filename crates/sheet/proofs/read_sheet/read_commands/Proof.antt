@@ -7,9 +7,6 @@ use Rattle.sheet.proofs.Cases.{commands-short, commands-many, commands-
 use Rattle.sheet.proofs.read_sheet.read_commands.Statement.{statement}
 use Rattle.sheet.proofs.read_sheet.read_commands.Tie as tie
 
-refuse-requires : tie.Need-refuse-requires
-refuse-requires c κs = search needs
-
 returns : tie.Need-returns
 unfolding sheetRead
 returns c = c .refuse .ensures ∙ ap sheetRead (sym (commands-short _ _ _ (omega arith)))
@@ -17,18 +14,12 @@ returns c = c .refuse .ensures ∙ ap sheetRead (sym (commands-short _ _ _ (omeg
 sub-if2 : tie.Need-sub-if2
 sub-if2 c = search needs
 
-refuse-requires-2 : tie.Need-refuse-requires-2
-refuse-requires-2 c κs = search needs
-
 returns-2 : tie.Need-returns-2
 unfolding sheetRead
 returns-2 c = c .refuse2 .ensures ∙ ap sheetRead (sym (commands-short _ _ _ (omega arith)))
 
 little-requires : tie.Need-little-requires
 little-requires c κs = search needs
-
-refuse-requires-3 : tie.Need-refuse-requires-3
-refuse-requires-3 c κs = search needs
 
 returns-3 : tie.Need-returns-3
 unfolding sheetRead
@@ -51,13 +42,13 @@ pub read-commands-spec : {M : Type 1} → statement M
 read-commands-spec =
     tie.close
     (tie.spec
-    refuse-requires
+    (λ c κs. tt)
     returns
     sub-if2
-    refuse-requires-2
+    (λ c κs. tt)
     returns-2
     little-requires
-    refuse-requires-3
+    (λ c κs. tt)
     returns-3
     add-read-entries
     read-entries-requires

@@ -49,9 +49,6 @@ found-now c = rw (sizes-now (c .before .before .before .before .before)) at (c .
 sizes-of-requires : tie.Need-sizes-of-requires Inv-loop μ-loop
 sizes-of-requires c κs = c .before .pre .1
 
-no-entries-requires : tie.Need-no-entries-requires Inv-loop μ-loop
-no-entries-requires c κs = search needs
-
 loop-holds : tie.Need-loop-holds Inv-loop μ-loop
 loop-holds c =
     let a = c .before .before .before .args in
@@ -70,9 +67,6 @@ read-command-requires c κs =
     let sizes = c .before .before .before .before in
     let start = sizes .before .before in
     rw (sizes-now sizes) (small (groupsIn (start .args .groups)) (start .pre .1 .readable))
-
-refuse-requires : tie.Need-refuse-requires Inv-loop μ-loop
-refuse-requires c κs = search needs
 
 returns : tie.Need-returns Inv-loop μ-loop
 unfolding sheetRead
@@ -104,9 +98,6 @@ loop-again c =
     turns-more (l .inv) (search needs) (search needs) (good .0) (good .1) (good .2) _ _
     (ap (λ (r : EntryRead). r .entry) (good .3)) (ap (λ (r : EntryRead). r .next) (good .3))
 
-refuse-requires-2 : tie.Need-refuse-requires-2 Inv-loop μ-loop
-refuse-requires-2 c κs = search needs
-
 returns-2 : tie.Need-returns-2 Inv-loop μ-loop
 unfolding sheetRead
 returns-2 c =
@@ -131,18 +122,18 @@ read-entries-spec =
     Inv-loop
     μ-loop
     sizes-of-requires
-    no-entries-requires
+    (λ c κs. tt)
     loop-holds
     array-share-prefix-sizes
     slice-aggregate-read-command
     read-command-requires
-    refuse-requires
+    (λ c κs. tt)
     returns
     mul-entries
     array-set-from-entries
     add-i
     loop-less
     loop-again
-    refuse-requires-2
+    (λ c κs. tt)
     returns-2
     returns-3)

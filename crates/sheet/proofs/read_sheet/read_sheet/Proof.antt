@@ -31,9 +31,6 @@ held-now c =
     let long = turns-long (l .inv) (search needs) in
     λ i. record { count = sym long i; list = l .inv .front i }
 
-refuse-requires : tie.Need-refuse-requires Inv-loop μ-loop
-refuse-requires c κs = search needs
-
 returns : tie.Need-returns Inv-loop μ-loop
 unfolding sheetRead
 returns c = c .refuse .ensures ∙ ap sheetRead (sym (sheet-none _ (c .before .if1 .taken)))
@@ -41,19 +38,10 @@ returns c = c .refuse .ensures ∙ ap sheetRead (sym (sheet-none _ (c .before .i
 shared-slice-read-wide : tie.Need-shared-slice-read-wide Inv-loop μ-loop
 shared-slice-read-wide c = search needs
 
-wide-requires : tie.Need-wide-requires Inv-loop μ-loop
-wide-requires c κs = search needs
-
-refuse-requires-2 : tie.Need-refuse-requires-2 Inv-loop μ-loop
-refuse-requires-2 c κs = search needs
-
 returns-2 : tie.Need-returns-2 Inv-loop μ-loop
 unfolding sheetRead
 returns-2 c =
     c .refuse2 .ensures ∙ ap sheetRead (sym (sheet-few _ _ (omega arith) (c .before .before .wide .ensures) (omega arith)))
-
-refuse-requires-3 : tie.Need-refuse-requires-3 Inv-loop μ-loop
-refuse-requires-3 c κs = search needs
 
 returns-3 : tie.Need-returns-3 Inv-loop μ-loop
 unfolding sheetRead
@@ -61,17 +49,8 @@ returns-3 c =
     c .refuse3 .ensures
     ∙ ap sheetRead (sym (sheet-many _ _ (omega arith) (c .before .before .before .wide .ensures) (omega arith) (c .before .if3 .taken)))
 
-no-groups-requires : tie.Need-no-groups-requires Inv-loop μ-loop
-no-groups-requires c κs = search needs
-
 loop-holds : tie.Need-loop-holds Inv-loop μ-loop
 loop-holds c = rw (c .no-groups .ensures) (turns-none groupOf 64 noGroup (group _) _ 1)
-
-read-group-requires : tie.Need-read-group-requires Inv-loop μ-loop
-read-group-requires c κs = search needs
-
-refuse-requires-4 : tie.Need-refuse-requires-4 Inv-loop μ-loop
-refuse-requires-4 c κs = search needs
 
 returns-4 : tie.Need-returns-4 Inv-loop μ-loop
 unfolding sheetRead
@@ -128,18 +107,18 @@ read-sheet-spec =
     (tie.spec
     Inv-loop
     μ-loop
-    refuse-requires
+    (λ c κs. tt)
     returns
     shared-slice-read-wide
-    wide-requires
-    refuse-requires-2
+    (λ c κs. tt)
+    (λ c κs. tt)
     returns-2
-    refuse-requires-3
+    (λ c κs. tt)
     returns-3
-    no-groups-requires
+    (λ c κs. tt)
     loop-holds
-    read-group-requires
-    refuse-requires-4
+    (λ c κs. tt)
+    (λ c κs. tt)
     returns-4
     mul-list
     array-set-from-list

@@ -20,9 +20,6 @@ loop-holds c = start (c .pre .permutation) (c .pre .within)
 element-copy-out-wide : tie.Need-element-copy-out-wide Inv-loop μ-loop
 element-copy-out-wide c = search needs
 
-wide-requires : tie.Need-wide-requires Inv-loop μ-loop
-wide-requires c κs = search needs
-
 -- the cell that is read
 cell : (c : tie.After-wide Inv-loop μ-loop)
     → (1 ≤ c .wide .result) × (c .wide .result ≤ c .before .before .before .before .args .n)
@@ -33,9 +30,6 @@ sub-before c = cell c .0
 
 element-copy-out-wide-2 : tie.Need-element-copy-out-wide-2 Inv-loop μ-loop
 element-copy-out-wide-2 c = omega (arith, cell c .1)
-
-wide-requires-2 : tie.Need-wide-requires-2 Inv-loop μ-loop
-wide-requires-2 c κs = search needs
 
 -- and what it adds
 turn : (c : tie.After-wide2 Inv-loop μ-loop)
@@ -79,10 +73,10 @@ prefix-number-spec =
     μ-loop
     loop-holds
     element-copy-out-wide
-    wide-requires
+    (λ c κs. tt)
     sub-before
     element-copy-out-wide-2
-    wide-requires-2
+    (λ c κs. tt)
     sub-before-2
     sub-number
     mul-number

@@ -1,7 +1,6 @@
 -- `symbols::prefix::prefix` meets its contract: each test decides the number, and past them the row is the symbol's prefix. Assumes nothing.
 use mathlib.Core.Path.{_≡_, refl, sym, _∙_}
 use native.Mathlib.Omega.{arith}
-use borrow.Author.Needs.{needs}
 use lib.ListN.{getD}
 use Rattle.theory.specs.Refusal.{sizeOf}
 use Rattle.theory.specs.Factorial.{factorial}
@@ -27,19 +26,10 @@ codes c =
     let range = size-range _ (sized (tabled .before)) in
     record { few = range .0; many = range .1; most = omega (arith, c .before .if2 .left, limit tabled); below = omega (arith, c .if3 .left) }
 
-size-of-requires : tie.Need-size-of-requires
-size-of-requires c κs = search needs
-
-no-prefix-requires : tie.Need-no-prefix-requires
-no-prefix-requires c κs = search needs
-
 returns : tie.Need-returns
 returns c =
     let ne = c .before .if1 .taken in
     c .no-prefix .ensures ∙ prefix-refused _ _ _ (size-reason _ _ _ (c .before .before .size-of .ensures) ne) ne
-
-factorial-table-requires : tie.Need-factorial-table-requires
-factorial-table-requires c κs = search needs
 
 mul-if2 : tie.Need-mul-if2
 mul-if2 c = omega (arith, size-range (c .before .before .before .args .n) (sized (c .before)) .1)
@@ -47,17 +37,11 @@ mul-if2 c = omega (arith, size-range (c .before .before .before .args .n) (sized
 array-read-if2 : tie.Need-array-read-if2
 array-read-if2 c = omega (arith, size-range (c .before .before .before .args .n) (sized (c .before)) .1)
 
-no-prefix-requires-2 : tie.Need-no-prefix-requires-2
-no-prefix-requires-2 c κs = search needs
-
 returns-2 : tie.Need-returns-2
 returns-2 c =
     let tabled = c .before .before in
     c .no-prefix2 .ensures
     ∙ prefix-refused _ _ _ (too-large _ _ _ (sized (tabled .before)) (omega (arith, c .before .if2 .taken, limit tabled))) (λ z. omega arith)
-
-no-prefix-requires-3 : tie.Need-no-prefix-requires-3
-no-prefix-requires-3 c κs = search needs
 
 returns-3 : tie.Need-returns-3
 returns-3 c =
@@ -103,15 +87,15 @@ pub prefix-spec : {M : Type 1} → statement M
 prefix-spec =
     tie.close
     (tie.spec
-    size-of-requires
-    no-prefix-requires
+    (λ c κs. tt)
+    (λ c κs. tt)
     returns
-    factorial-table-requires
+    (λ c κs. tt)
     mul-if2
     array-read-if2
-    no-prefix-requires-2
+    (λ c κs. tt)
     returns-2
-    no-prefix-requires-3
+    (λ c κs. tt)
     returns-3
     prefix-length-requires
     falling-requires

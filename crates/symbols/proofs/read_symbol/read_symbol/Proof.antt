@@ -39,9 +39,6 @@ high c = omega (arith, c .if3 .left, limit (c .before))
 returns-2 : tie.Need-returns-2
 returns-2 c = symbol-refused _ _ (symbol-none _ _ (read (c .before) .levels) (omega (arith, c .if2 .taken))) (eqb-false 5 0 refl)
 
-factorial-table-requires : tie.Need-factorial-table-requires
-factorial-table-requires c κs = search needs
-
 mul-if3 : tie.Need-mul-if3
 mul-if3 c = omega (arith, read (c .before .before) .levels .many)
 
@@ -53,9 +50,6 @@ returns-3 c =
     symbol-refused _ _
     (symbol-many _ _ (read (c .before .before .before) .levels) (low (c .before .before)) (omega (arith, c .if3 .taken, limit (c .before))))
     (eqb-false 5 0 refl)
-
-check-requires : tie.Need-check-requires
-check-requires c κs = search needs
 
 prefix-length-requires : tie.Need-prefix-length-requires
 prefix-length-requires c κs =
@@ -96,11 +90,11 @@ read-symbol-spec =
     read-requires
     returns
     returns-2
-    factorial-table-requires
+    (λ c κs. tt)
     mul-if3
     array-read-if3
     returns-3
-    check-requires
+    (λ c κs. tt)
     prefix-length-requires
     prefix-number-requires
     returns-4

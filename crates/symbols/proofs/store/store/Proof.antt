@@ -20,9 +20,6 @@ found-now c =
 read-requires : tie.Need-read-requires
 read-requires c κs = search needs
 
-no-pushes-requires : tie.Need-no-pushes-requires
-no-pushes-requires c κs = search needs
-
 same-length : tie.Need-same-length
 same-length c = search needs
 
@@ -30,12 +27,6 @@ returns : tie.Need-returns
 returns c =
     let ne = c .before .if1 .taken in
     store-refused _ _ _ (c .no-pushes .ensures) (store-fault _ _ _ (number-is _ (c .before .before .before .read .ensures)) ne) ne
-
-prefix-requires : tie.Need-prefix-requires
-prefix-requires c κs = search needs
-
-no-pushes-requires-2 : tie.Need-no-pushes-requires-2
-no-pushes-requires-2 c κs = search needs
 
 same-length-2 : tie.Need-same-length-2
 same-length-2 c = search needs
@@ -62,11 +53,11 @@ store-spec =
     tie.close
     (tie.spec
     read-requires
-    no-pushes-requires
+    (λ c κs. tt)
     same-length
     returns
-    prefix-requires
-    no-pushes-requires-2
+    (λ c κs. tt)
+    (λ c κs. tt)
     same-length-2
     returns-2
     store-prefix-requires

@@ -6,9 +6,6 @@ use Rattle.text.proofs.Printing.{laid-taken, too-short, long-enough, co
 use Rattle.text.proofs.bench.bench.Statement.{statement}
 use Rattle.text.proofs.bench.bench.Tie as tie
 
-text-buffer-requires : tie.Need-text-buffer-requires
-text-buffer-requires c κs = search needs
-
 slice-aggregate-lay : tie.Need-slice-aggregate-lay
 slice-aggregate-lay c = search needs
 
@@ -46,7 +43,7 @@ pub bench-spec : {M : Type 1} → statement M
 bench-spec =
     tie.close
     (tie.spec
-    text-buffer-requires
+    (λ c κs. tt)
     slice-aggregate-lay
     lay-requires
     returns

@@ -6,9 +6,6 @@ use Rattle.text.proofs.Printable.{printable, fault-text}
 use Rattle.text.proofs.bench.lay.Statement.{statement}
 use Rattle.text.proofs.bench.lay.Tie as tie
 
-work-sheet-requires : tie.Need-work-sheet-requires
-work-sheet-requires c κs = search needs
-
 put-fault-requires : tie.Need-put-fault-requires
 put-fault-requires c κs = search needs
 
@@ -48,7 +45,7 @@ pub lay-spec : {M : Type 1} → statement M
 lay-spec =
     tie.close
     (tie.spec
-    work-sheet-requires
+    (λ c κs. tt)
     put-fault-requires
     same-length
     returns

@@ -12,9 +12,6 @@ use Rattle.text.proofs.fields.put_field.Tie as tie
 put-byte-requires : tie.Need-put-byte-requires
 put-byte-requires c κs = search needs
 
-decimal-requires : tie.Need-decimal-requires
-decimal-requires c κs = search needs
-
 array-share-prefix-digits : tie.Need-array-share-prefix-digits
 array-share-prefix-digits c = search needs
 
@@ -58,7 +55,7 @@ put-field-spec =
     tie.close
     (tie.spec
     put-byte-requires
-    decimal-requires
+    (λ c κs. tt)
     array-share-prefix-digits
     slice-aggregate-copy
     sub-copy

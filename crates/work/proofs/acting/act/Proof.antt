@@ -6,23 +6,14 @@ use Rattle.work.proofs.acting.act.Tie as tie
 enum-known-action : tie.Need-enum-known-action
 enum-known-action c = search needs
 
-count-up-requires : tie.Need-count-up-requires
-count-up-requires c κs = search needs
-
 enum-told : tie.Need-enum-told
 enum-told c = search needs
 
 slice-aggregate-rewrite : tie.Need-slice-aggregate-rewrite
 slice-aggregate-rewrite c = search needs
 
-rewrite-requires : tie.Need-rewrite-requires
-rewrite-requires c κs = search needs
-
 enum-known-action-2 : tie.Need-enum-known-action-2
 enum-known-action-2 c = search needs
-
-store-requires : tie.Need-store-requires
-store-requires c κs = search needs
 
 same-length : tie.Need-same-length
 same-length c = search needs
@@ -51,12 +42,12 @@ act-spec =
     tie.close
     (tie.spec
     enum-known-action
-    count-up-requires
+    (λ c κs. tt)
     enum-told
     slice-aggregate-rewrite
-    rewrite-requires
+    (λ c κs. tt)
     enum-known-action-2
-    store-requires
+    (λ c κs. tt)
     same-length
     returns
     same-length-2

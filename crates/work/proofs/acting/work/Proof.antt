@@ -12,9 +12,6 @@ Inv-loop sheet count answers₀ groups₀ i₀ answers groups i = Progress sheet
 abbrev μ-loop : tie.MeasureT-loop
 μ-loop sheet count answers₀ groups₀ i₀ answers groups i = count - i
 
-no-answers-requires : tie.Need-no-answers-requires Inv-loop μ-loop
-no-answers-requires c κs = search needs
-
 loop-holds : tie.Need-loop-holds Inv-loop μ-loop
 loop-holds c = rw (c .before .no-answers .ensures) (start (c .before .before .pre))
 
@@ -23,9 +20,6 @@ mul-entry c = search needs
 
 element-copy-out-entry : tie.Need-element-copy-out-entry Inv-loop μ-loop
 element-copy-out-entry c = let few = count-few (c .before .before .before .before .pre) in omega arith
-
-wide-requires : tie.Need-wide-requires Inv-loop μ-loop
-wide-requires c κs = search needs
 
 -- the group that the command names stands in the row
 below : (c : tie.After-wide Inv-loop μ-loop) → (c .wide .result < c .before .before .before .before .before .loop .groups .count) × (c .wide .result < 64)
@@ -88,11 +82,11 @@ work-spec =
     (tie.spec
     Inv-loop
     μ-loop
-    no-answers-requires
+    (λ c κs. tt)
     loop-holds
     mul-entry
     element-copy-out-entry
-    wide-requires
+    (λ c κs. tt)
     mul-group
     element-copy-out-group
     act-group-requires
