@@ -10,8 +10,8 @@ pub struct Input {
 
 // A failed read gives no bytes.
 pub fn read_input(fd: i32, buf: &mut [u8]) -> Input
-    ensures { λ r. ⌜ Counts (r .length) (now (buf .exit)) ⌝ }
-    ensures { λ r. ⌜ (r .failed ≡ true → r .length ≡ 0) ⌝ }
+    ensures counts { λ r. ⌜ Counts (r .length) (now (buf .exit)) ⌝ }
+    ensures failed_is_none { λ r. ⌜ (r .failed ≡ true → r .length ≡ 0) ⌝ }
 {
     let mut at: usize = 0;
     while at < buf.len() {

@@ -30,8 +30,8 @@ fn count_steps(levels: &mut [u16], cells: &mut [u8; 20], top: u16, k: u16)
 }
 
 pub fn count_up(levels: &mut [u16], k: u32) -> Pushes
-    ensures { λ r. ⌜ r ≡ counted (now (levels .entry)) k ⌝ }
-    ensures { λ _. ⌜ now (levels .exit) ≡ meaning.callLevels k (now (levels .entry)) ⌝ }
+    ensures answer { λ r. ⌜ r ≡ counted (now (levels .entry)) k ⌝ }
+    ensures levels_left { λ _. ⌜ now (levels .exit) ≡ meaning.callLevels k (now (levels .entry)) ⌝ }
 {
     let call = judge_call(levels, k);
     let number = call.number;

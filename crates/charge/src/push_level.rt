@@ -12,8 +12,8 @@ use permutation::reasons::CEILING;
 use permutation::reasons::VALUE;
 
 pub fn push_level(levels: &mut [u16], place: usize) -> Pushes
-    ensures { λ r. ⌜ r ≡ placePushes (now (levels .entry)) place ⌝ }
-    ensures { λ _. ⌜ now (levels .exit) ≡ placeLevels (now (levels .entry)) place ⌝ }
+    ensures answer { λ r. ⌜ r ≡ placePushes (now (levels .entry)) place ⌝ }
+    ensures levels_left { λ _. ⌜ now (levels .exit) ≡ placeLevels (now (levels .entry)) place ⌝ }
 {
     let number = fault(levels);
     if number != 0 {

@@ -31,8 +31,8 @@ fn push_first(levels: &mut [u16], cells: &[u8; 20], r: usize, top: u16)
 // All of them, or CEILING and none: it is judged before the first. For other crates too: it asks for a row of cells.
 pub fn raise(levels: &mut [u16], cells: &[u8; 20], r: usize) -> Pushes
     requires { ⌜ Pushable (length (now levels)) (now cells) r ⌝ }
-    ensures { λ a. ⌜ a ≡ pushesOf (ceilingOf (now (levels .entry)) r) r ⌝ }
-    ensures { λ _. ⌜ now (levels .exit) ≡ raised (now (levels .entry)) (now (cells .entry)) r ⌝ }
+    ensures answer { λ a. ⌜ a ≡ pushesOf (ceilingOf (now (levels .entry)) r) r ⌝ }
+    ensures levels_left { λ _. ⌜ now (levels .exit) ≡ raised (now (levels .entry)) (now (cells .entry)) r ⌝ }
 {
     let top = highest(levels);
     if 65535 - (top as usize) < r {

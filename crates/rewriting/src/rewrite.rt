@@ -69,12 +69,12 @@ fn list_pushes(list: &mut [u8], cells: &[u8; 20], r: usize)
     }
 }
 
-// The last clause: the target is what is then read, and no shorter row of pushes leads to it.
+// `reached`: the target is what is then read, and no shorter row of pushes leads to it.
 pub fn rewrite(levels: &mut [u16], target: Permutation, list: &mut [u8]) -> Pushes
-    ensures { λ r. ⌜ r ≡ rewritten (now (levels .entry)) target (length (now (list .entry))) ⌝ }
-    ensures { λ _. ⌜ now (levels .exit) ≡ rewriteLevels (now (levels .entry)) target (length (now (list .entry))) ⌝ }
-    ensures { λ _. ⌜ now (list .exit) ≡ rewriteList (now (levels .entry)) target (now (list .entry)) ⌝ }
-    ensures { λ r. ⌜ (r .number ≡ 0 → RewriteOf (now (levels .entry)) target (now (levels .exit)) (r .pushes)) ⌝ }
+    ensures answer { λ r. ⌜ r ≡ rewritten (now (levels .entry)) target (length (now (list .entry))) ⌝ }
+    ensures levels_left { λ _. ⌜ now (levels .exit) ≡ rewriteLevels (now (levels .entry)) target (length (now (list .entry))) ⌝ }
+    ensures list_left { λ _. ⌜ now (list .exit) ≡ rewriteList (now (levels .entry)) target (now (list .entry)) ⌝ }
+    ensures reached { λ r. ⌜ (r .number ≡ 0 → RewriteOf (now (levels .entry)) target (now (levels .exit)) (r .pushes)) ⌝ }
 {
     let number = judge(levels, target, list.len());
     if number != 0 {

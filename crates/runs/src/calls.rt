@@ -12,12 +12,12 @@ use permutation::reasons::FIT;
 
 // Each call's number goes to its place of `numbers`, whose later bytes keep their values; the answer's pushes are those of all calls together. Its number is
 // 0 when all calls were made, whatever numbers they got, and FIT where `numbers` has fewer places than there are calls: then nothing is judged or altered.
-// The last clause is demand 3 on levels: any start of 2 to 20 levels without a tie, any list of calls.
+// `demand3` speaks of levels: any start of 2 to 20 levels without a tie, any list of calls.
 pub fn run_calls(levels: &mut [u16], counts: &[u32], numbers: &mut [u8]) -> Pushes
-    ensures { λ r. ⌜ r ≡ called (now (levels .entry)) (now (counts .entry)) (now (numbers .entry)) ⌝ }
-    ensures { λ _. ⌜ now (levels .exit) ≡ calledLevels (now (levels .entry)) (now (counts .entry)) (now (numbers .entry)) ⌝ }
-    ensures { λ _. ⌜ now (numbers .exit) ≡ calledNumbers (now (levels .entry)) (now (counts .entry)) (now (numbers .entry)) ⌝ }
-    ensures { λ r. ⌜ (r .number ≡ 0 → 2 ≤ length (now (levels .entry)) → Start (length (now (levels .entry))) (now (levels .entry))
+    ensures answer { λ r. ⌜ r ≡ called (now (levels .entry)) (now (counts .entry)) (now (numbers .entry)) ⌝ }
+    ensures levels_left { λ _. ⌜ now (levels .exit) ≡ calledLevels (now (levels .entry)) (now (counts .entry)) (now (numbers .entry)) ⌝ }
+    ensures numbers_left { λ _. ⌜ now (numbers .exit) ≡ calledNumbers (now (levels .entry)) (now (counts .entry)) (now (numbers .entry)) ⌝ }
+    ensures demand3 { λ r. ⌜ (r .number ≡ 0 → 2 ≤ length (now (levels .entry)) → Start (length (now (levels .entry))) (now (levels .entry))
         → CallsOf (now (levels .entry)) (now (counts .entry)) (now (levels .exit)) (now (numbers .exit)) (r .pushes)) ⌝ }
 {
     if numbers.len() < counts.len() {

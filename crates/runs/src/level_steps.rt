@@ -23,10 +23,10 @@ struct Stepped {
 
 fn step_levels(levels: &mut [u16]) -> Stepped
     requires { ⌜ callNumber 1 (now levels) ≡ 0 ⌝ }
-    ensures { λ r. ⌜ r .cell ≡ nextCell (now (levels .entry)) ⌝ }
-    ensures { λ r. ⌜ r .raise ≡ jump (nextCell (now (levels .entry))) (now (levels .entry)) ⌝ }
-    ensures { λ r. ⌜ r .spread ≡ topLessBottom (now (levels .exit)) ⌝ }
-    ensures { λ _. ⌜ now (levels .exit) ≡ pushLevel (nextCell (now (levels .entry))) (now (levels .entry)) ⌝ }
+    ensures cell_pushed { λ r. ⌜ r .cell ≡ nextCell (now (levels .entry)) ⌝ }
+    ensures raised_by { λ r. ⌜ r .raise ≡ jump (nextCell (now (levels .entry))) (now (levels .entry)) ⌝ }
+    ensures spread_left { λ r. ⌜ r .spread ≡ topLessBottom (now (levels .exit)) ⌝ }
+    ensures levels_left { λ _. ⌜ now (levels .exit) ≡ pushLevel (nextCell (now (levels .entry))) (now (levels .entry)) ⌝ }
 {
     let standing = read(levels).permutation;
     let place = successor(standing).place;
@@ -48,11 +48,11 @@ fn larger(a: u16, b: u16) -> u16
     if a < b { b } else { a }
 }
 
-// Refused exactly as count up by k is. The last clause is demand 3 of what is returned and left.
+// Refused exactly as count up by k is. `demand3` speaks of what is returned and left.
 pub fn run_levels(levels: &mut [u16], k: u32) -> RanLevels
-    ensures { λ r. ⌜ r ≡ ranLevels (now (levels .entry)) k ⌝ }
-    ensures { λ _. ⌜ now (levels .exit) ≡ callLevels k (now (levels .entry)) ⌝ }
-    ensures { λ r. ⌜ (r .number ≡ 0 → LevelsOf (now (levels .entry)) k (now (levels .exit)) r) ⌝ }
+    ensures answer { λ r. ⌜ r ≡ ranLevels (now (levels .entry)) k ⌝ }
+    ensures levels_left { λ _. ⌜ now (levels .exit) ≡ callLevels k (now (levels .entry)) ⌝ }
+    ensures demand3 { λ r. ⌜ (r .number ≡ 0 → LevelsOf (now (levels .entry)) k (now (levels .exit)) r) ⌝ }
 {
     let number = judge_call(levels, k).number;
     let mut counts = [0u64; 20];

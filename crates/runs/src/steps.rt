@@ -9,10 +9,10 @@ use permutation::push::push;
 use permutation::successor::successor;
 use ranking::rank::rank;
 
-// The rank is worked out from the record that the run ends with. The second clause is demand 3 on permutations: the run from any permutation, for every k.
+// The rank is worked out from the record that the run ends with. `demand3` speaks of permutations: the run from any of them, for every k.
 pub fn run_steps(permutation: Permutation, k: u64) -> Ran
-    ensures { λ r. ⌜ r ≡ ran permutation k ⌝ }
-    ensures { λ r. ⌜ (r .number ≡ 0 → RunOf (permutation .n) (listOf permutation) k (listOf (r .permutation)) (r .rank) (countIn (r .counts))) ⌝ }
+    ensures answer { λ r. ⌜ r ≡ ran permutation k ⌝ }
+    ensures demand3 { λ r. ⌜ (r .number ≡ 0 → RunOf (permutation .n) (listOf permutation) k (listOf (r .permutation)) (r .rank) (countIn (r .counts))) ⌝ }
 {
     // a run of no steps judges its record too
     let number = successor(permutation).number;

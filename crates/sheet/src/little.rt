@@ -8,8 +8,8 @@ use permutation::cell::wide_digit;
 // The number that k bytes from a place on spell.
 pub fn little(s: &[u8], at: usize, k: usize) -> u64
     requires { ⌜ (k ≤ 8) × (at + k ≤ length (now s)) ⌝ }
-    ensures { λ r. ⌜ r ≡ meaning.little (take k (drop at (now (s .entry)))) ⌝ }
-    ensures { λ r. ⌜ r < 256 ^ k ⌝ }
+    ensures spelled { λ r. ⌜ r ≡ meaning.little (take k (drop at (now (s .entry)))) ⌝ }
+    ensures range { λ r. ⌜ r < 256 ^ k ⌝ }
 {
     let mut value: u64 = 0;
     let mut i = k;

@@ -28,19 +28,19 @@ fn unpassed(prefix: &[u8; 20], p: usize, top: u8) -> usize
 // Any prefix of p cells, at the front of its row, is stored; `cells` is the row of the levels' permutation. For other crates too: it asks for both rows.
 pub fn store_prefix(levels: &mut [u16], cells: &[u8; 20], prefix: &[u8; 20], p: usize) -> Pushes
     requires { ⌜ Storable (now levels) (now cells) (now prefix) p ⌝ }
-    ensures { λ r. ⌜ r ≡ prefixPushes (now (levels .entry)) (take p (now (prefix .entry))) ⌝ }
-    ensures { λ _. ⌜ now (levels .exit) ≡ prefixLevels (now (levels .entry)) (take p (now (prefix .entry))) ⌝ }
-    ensures { λ r. ⌜ (r .number ≡ 0 → LedBy (take p (now (prefix .entry))) (now (levels .entry)) (now (levels .exit))) ⌝ }
+    ensures answer { λ r. ⌜ r ≡ prefixPushes (now (levels .entry)) (take p (now (prefix .entry))) ⌝ }
+    ensures levels_left { λ _. ⌜ now (levels .exit) ≡ prefixLevels (now (levels .entry)) (take p (now (prefix .entry))) ⌝ }
+    ensures led { λ r. ⌜ (r .number ≡ 0 → LedBy (take p (now (prefix .entry))) (now (levels .entry)) (now (levels .exit))) ⌝ }
 {
     let r = unpassed(prefix, p, cells[0]);
     raise(levels, prefix, r)
 }
 
-// The last clause: what the levels then are read as, and that the symbol is read back.
+// `read_back`: what the levels then are read as, and that the symbol is read back.
 pub fn store(levels: &mut [u16], m: u64, symbol: u64) -> Pushes
-    ensures { λ r. ⌜ r ≡ stored (now (levels .entry)) m symbol ⌝ }
-    ensures { λ _. ⌜ now (levels .exit) ≡ storeLevels (now (levels .entry)) m symbol ⌝ }
-    ensures { λ r. ⌜ (r .number ≡ 0 → StoreOf (now (levels .entry)) m symbol (now (levels .exit))) ⌝ }
+    ensures answer { λ r. ⌜ r ≡ stored (now (levels .entry)) m symbol ⌝ }
+    ensures levels_left { λ _. ⌜ now (levels .exit) ≡ storeLevels (now (levels .entry)) m symbol ⌝ }
+    ensures read_back { λ r. ⌜ (r .number ≡ 0 → StoreOf (now (levels .entry)) m symbol (now (levels .exit))) ⌝ }
 {
     let standing = read(levels);
     if standing.number != 0 {

@@ -18,8 +18,8 @@ use work::work_sheet::work_sheet;
 
 fn lay(sheet: &[u8], text: &mut [u8]) -> usize
     requires { ⌜ textBound ≤ length (now text) ⌝ }
-    ensures { λ r. ⌜ Puts (now (text .entry)) 0 (now (text .exit)) r (textOf (contents (now (sheet .entry)))) ⌝ }
-    ensures { λ r. ⌜ r ≤ textBound ⌝ }
+    ensures puts { λ r. ⌜ Puts (now (text .entry)) 0 (now (text .exit)) r (textOf (contents (now (sheet .entry)))) ⌝ }
+    ensures short { λ r. ⌜ r ≤ textBound ⌝ }
 {
     let worked = work_sheet(sheet);
     let number = worked.number;
@@ -31,12 +31,12 @@ fn lay(sheet: &[u8], text: &mut [u8]) -> usize
     put_groups(text, at, outcome)
 }
 
-// The third clause: a buffer for the longest text is never too short. The last: `&text[..length]` can be lent.
+// `fits`: a buffer for the longest text is never too short. `counts`: `&text[..length]` can be lent.
 pub fn bench(sheet: &[u8], text: &mut [u8]) -> Printed
-    ensures { λ r. ⌜ r ≡ printed (textOf (contents (now (sheet .entry)))) (length (now (text .entry))) ⌝ }
-    ensures { λ _. ⌜ now (text .exit) ≡ printedOn (textOf (contents (now (sheet .entry)))) (now (text .entry)) ⌝ }
-    ensures { λ r. ⌜ (textBound ≤ length (now (text .entry)) → r .number ≡ 0) ⌝ }
-    ensures { λ r. ⌜ Counts (r .length) (now (text .exit)) ⌝ }
+    ensures answer { λ r. ⌜ r ≡ printed (textOf (contents (now (sheet .entry)))) (length (now (text .entry))) ⌝ }
+    ensures text_left { λ _. ⌜ now (text .exit) ≡ printedOn (textOf (contents (now (sheet .entry)))) (now (text .entry)) ⌝ }
+    ensures fits { λ r. ⌜ (textBound ≤ length (now (text .entry)) → r .number ≡ 0) ⌝ }
+    ensures counts { λ r. ⌜ Counts (r .length) (now (text .exit)) ⌝ }
 {
     let mut page = text_buffer();
     let length = lay(sheet, &mut page);

@@ -15,8 +15,8 @@ use work::answers::Outcome;
 
 pub fn put_fault(text: &mut [u8], number: u8) -> usize
     requires { ⌜ 6 ≤ length (now text) ⌝ }
-    ensures { λ r. ⌜ Puts (now (text .entry)) 0 (now (text .exit)) r (meaning.faultLine number) ⌝ }
-    ensures { λ r. ⌜ r ≤ 6 ⌝ }
+    ensures puts { λ r. ⌜ Puts (now (text .entry)) 0 (now (text .exit)) r (meaning.faultLine number) ⌝ }
+    ensures short { λ r. ⌜ r ≤ 6 ⌝ }
 {
     let a = put_byte(text, 0, b's');
     let b = put_field(text, a, number as u64);
@@ -25,8 +25,8 @@ pub fn put_fault(text: &mut [u8], number: u8) -> usize
 
 fn put_command(text: &mut [u8], at: usize, place: usize, answer: Pushes) -> usize
     requires { ⌜ (at + 22 ≤ length (now text)) × (place ≤ 1000) ⌝ }
-    ensures { λ r. ⌜ Puts (now (text .entry)) at (now (text .exit)) r (meaning.commandLine place answer) ⌝ }
-    ensures { λ r. ⌜ r ≤ at + 22 ⌝ }
+    ensures puts { λ r. ⌜ Puts (now (text .entry)) at (now (text .exit)) r (meaning.commandLine place answer) ⌝ }
+    ensures short { λ r. ⌜ r ≤ at + 22 ⌝ }
 {
     let number = answer.number;
     let pushes = answer.pushes;
@@ -39,8 +39,8 @@ fn put_command(text: &mut [u8], at: usize, place: usize, answer: Pushes) -> usiz
 
 fn put_levels(text: &mut [u8], at: usize, levels: &[u16]) -> usize
     requires { ⌜ at + 6 * length (now levels) ≤ length (now text) ⌝ }
-    ensures { λ r. ⌜ Puts (now (text .entry)) at (now (text .exit)) r (meaning.fields (now (levels .entry))) ⌝ }
-    ensures { λ r. ⌜ r ≤ at + 6 * length (now (levels .entry)) ⌝ }
+    ensures puts { λ r. ⌜ Puts (now (text .entry)) at (now (text .exit)) r (meaning.fields (now (levels .entry))) ⌝ }
+    ensures short { λ r. ⌜ r ≤ at + 6 * length (now (levels .entry)) ⌝ }
 {
     let mut end = at;
     let mut i: usize = 0;
@@ -54,8 +54,8 @@ fn put_levels(text: &mut [u8], at: usize, levels: &[u16]) -> usize
 
 fn put_group(text: &mut [u8], at: usize, g: usize, rank: u64, group: Group) -> usize
     requires { ⌜ (at + 146 ≤ length (now text)) × (g < 64) × GroupHeld group × (rank ≡ work.rankOf (levelsOf group)) ⌝ }
-    ensures { λ r. ⌜ Puts (now (text .entry)) at (now (text .exit)) r (meaning.groupLine g (levelsOf group)) ⌝ }
-    ensures { λ r. ⌜ r ≤ at + 146 ⌝ }
+    ensures puts { λ r. ⌜ Puts (now (text .entry)) at (now (text .exit)) r (meaning.groupLine g (levelsOf group)) ⌝ }
+    ensures short { λ r. ⌜ r ≤ at + 146 ⌝ }
 {
     let n = group.n;
     let levels = group.levels;
@@ -68,8 +68,8 @@ fn put_group(text: &mut [u8], at: usize, g: usize, rank: u64, group: Group) -> u
 
 pub fn put_commands(text: &mut [u8], outcome: Outcome) -> usize
     requires { ⌜ (outcome .count ≤ 1000) × (length (outcome .answers) ≡ 1000) × (22 * outcome .count ≤ length (now text)) ⌝ }
-    ensures { λ r. ⌜ Puts (now (text .entry)) 0 (now (text .exit)) r (meaning.commandLines 1 (take (outcome .count) (outcome .answers))) ⌝ }
-    ensures { λ r. ⌜ r ≤ 22 * outcome .count ⌝ }
+    ensures puts { λ r. ⌜ Puts (now (text .entry)) 0 (now (text .exit)) r (meaning.commandLines 1 (take (outcome .count) (outcome .answers))) ⌝ }
+    ensures short { λ r. ⌜ r ≤ 22 * outcome .count ⌝ }
 {
     let count = outcome.count;
     let mut at: usize = 0;
@@ -84,8 +84,8 @@ pub fn put_commands(text: &mut [u8], outcome: Outcome) -> usize
 
 pub fn put_groups(text: &mut [u8], from: usize, outcome: Outcome) -> usize
     requires { ⌜ (from + 146 * outcome .groups .count ≤ length (now text)) × OutcomeHeld outcome ⌝ }
-    ensures { λ r. ⌜ Puts (now (text .entry)) from (now (text .exit)) r (meaning.groupLines 0 (groupsIn (outcome .groups))) ⌝ }
-    ensures { λ r. ⌜ r ≤ from + 146 * outcome .groups .count ⌝ }
+    ensures puts { λ r. ⌜ Puts (now (text .entry)) from (now (text .exit)) r (meaning.groupLines 0 (groupsIn (outcome .groups))) ⌝ }
+    ensures short { λ r. ⌜ r ≤ from + 146 * outcome .groups .count ⌝ }
 {
     let groups = outcome.groups;
     let count = groups.count;

@@ -78,35 +78,35 @@ pub extern "C" fn tm_read(levels: &[u16]) -> Permuted
 
 #[no_mangle]
 pub extern "C" fn tm_push_level(levels: &mut [u16], place: usize) -> Pushes
-    ensures { λ r. ⌜ r ≡ placePushes (now (levels .entry)) place ⌝ }
-    ensures { λ _. ⌜ now (levels .exit) ≡ placeLevels (now (levels .entry)) place ⌝ }
+    ensures answer { λ r. ⌜ r ≡ placePushes (now (levels .entry)) place ⌝ }
+    ensures levels_left { λ _. ⌜ now (levels .exit) ≡ placeLevels (now (levels .entry)) place ⌝ }
 {
     push_level(levels, place)
 }
 
 #[no_mangle]
 pub extern "C" fn tm_count_up(levels: &mut [u16], k: u32) -> Pushes
-    ensures { λ r. ⌜ r ≡ counted (now (levels .entry)) k ⌝ }
-    ensures { λ _. ⌜ now (levels .exit) ≡ callLevels k (now (levels .entry)) ⌝ }
+    ensures answer { λ r. ⌜ r ≡ counted (now (levels .entry)) k ⌝ }
+    ensures levels_left { λ _. ⌜ now (levels .exit) ≡ callLevels k (now (levels .entry)) ⌝ }
 {
     count_up(levels, k)
 }
 
 #[no_mangle]
 pub extern "C" fn tm_rewrite(levels: &mut [u16], target: Permutation, list: &mut [u8]) -> Pushes
-    ensures { λ r. ⌜ r ≡ rewritten (now (levels .entry)) target (length (now (list .entry))) ⌝ }
-    ensures { λ _. ⌜ now (levels .exit) ≡ rewriteLevels (now (levels .entry)) target (length (now (list .entry))) ⌝ }
-    ensures { λ _. ⌜ now (list .exit) ≡ rewriteList (now (levels .entry)) target (now (list .entry)) ⌝ }
-    ensures { λ r. ⌜ (r .number ≡ 0 → RewriteOf (now (levels .entry)) target (now (levels .exit)) (r .pushes)) ⌝ }
+    ensures answer { λ r. ⌜ r ≡ rewritten (now (levels .entry)) target (length (now (list .entry))) ⌝ }
+    ensures levels_left { λ _. ⌜ now (levels .exit) ≡ rewriteLevels (now (levels .entry)) target (length (now (list .entry))) ⌝ }
+    ensures list_left { λ _. ⌜ now (list .exit) ≡ rewriteList (now (levels .entry)) target (now (list .entry)) ⌝ }
+    ensures reached { λ r. ⌜ (r .number ≡ 0 → RewriteOf (now (levels .entry)) target (now (levels .exit)) (r .pushes)) ⌝ }
 {
     rewrite(levels, target, list)
 }
 
 #[no_mangle]
 pub extern "C" fn tm_store(levels: &mut [u16], m: u64, symbol: u64) -> Pushes
-    ensures { λ r. ⌜ r ≡ stored (now (levels .entry)) m symbol ⌝ }
-    ensures { λ _. ⌜ now (levels .exit) ≡ storeLevels (now (levels .entry)) m symbol ⌝ }
-    ensures { λ r. ⌜ (r .number ≡ 0 → StoreOf (now (levels .entry)) m symbol (now (levels .exit))) ⌝ }
+    ensures answer { λ r. ⌜ r ≡ stored (now (levels .entry)) m symbol ⌝ }
+    ensures levels_left { λ _. ⌜ now (levels .exit) ≡ storeLevels (now (levels .entry)) m symbol ⌝ }
+    ensures read_back { λ r. ⌜ (r .number ≡ 0 → StoreOf (now (levels .entry)) m symbol (now (levels .exit))) ⌝ }
 {
     store(levels, m, symbol)
 }
@@ -120,9 +120,9 @@ pub extern "C" fn tm_read_symbol(levels: &[u16], m: u64) -> Symbol
 
 #[no_mangle]
 pub extern "C" fn tm_bench(sheet: &[u8], text: &mut [u8]) -> Printed
-    ensures { λ r. ⌜ r ≡ printed (textOf (contents (now (sheet .entry)))) (length (now (text .entry))) ⌝ }
-    ensures { λ _. ⌜ now (text .exit) ≡ printedOn (textOf (contents (now (sheet .entry)))) (now (text .entry)) ⌝ }
-    ensures { λ r. ⌜ (textBound ≤ length (now (text .entry)) → r .number ≡ 0) ⌝ }
+    ensures answer { λ r. ⌜ r ≡ printed (textOf (contents (now (sheet .entry)))) (length (now (text .entry))) ⌝ }
+    ensures text_left { λ _. ⌜ now (text .exit) ≡ printedOn (textOf (contents (now (sheet .entry)))) (now (text .entry)) ⌝ }
+    ensures fits { λ r. ⌜ (textBound ≤ length (now (text .entry)) → r .number ≡ 0) ⌝ }
 {
     bench(sheet, text)
 }

@@ -31,8 +31,8 @@ struct Acted {
 }
 
 fn act(levels: &mut [u16], action: Action, target: Permutation) -> Pushes
-    ensures { λ r. ⌜ r ≡ meaning.jobAnswer action target (now (levels .entry)) ⌝ }
-    ensures { λ _. ⌜ now (levels .exit) ≡ meaning.jobLevels action target (now (levels .entry)) ⌝ }
+    ensures answer { λ r. ⌜ r ≡ meaning.jobAnswer action target (now (levels .entry)) ⌝ }
+    ensures levels_left { λ _. ⌜ now (levels .exit) ≡ meaning.jobLevels action target (now (levels .entry)) ⌝ }
 {
     match action {
         Action::Count(k) => count_up(levels, k),
