@@ -207,10 +207,10 @@ def check_document_001(lines):
 
     # Definition 13, and Lemma 15: n!/(n-r)! permutations are within r pushes
     for start, target, cost in COSTS:
-        assert costs(start)[tuple(target)] == cost == rewrite_number(start, target) and rewrites(start, target) in lines
+        assert costs(start)[tuple(target)] == cost == rewrite_count(start, target) and rewrites(start, target) in lines
     for n in range(2, 6):
         found = costs([*range(1, n + 1)])
-        assert len(found) == factorial(n) and all(rewrite_number([*range(1, n + 1)], [*target]) == cost for target, cost in found.items())
+        assert len(found) == factorial(n) and all(rewrite_count([*range(1, n + 1)], [*target]) == cost for target, cost in found.items())
         assert all(sum(cost <= r for cost in found.values()) == factorial(n) // factorial(n - r) for r in range(n))
     assert all(rewrites([1, 2, 3, 4], [*target]) in lines for target in permutations([1, 2, 3, 4]))
 

@@ -78,14 +78,14 @@ def push_cells(levels, cells):
     return levels
 
 
-def rewrite_number(order, target):
+def rewrite_count(order, target):
     """The smallest r for which the last n - r cells of the target stand in that same relative sequence now."""
     return next(r for r in range(len(target) + 1) if [c for c in order if c in target[r:]] == target[r:])
 
 
 def rewrite_pushes(order, target):
     """The target's cells r, r-1, ..., 1."""
-    return target[:rewrite_number(order, target)][::-1]
+    return target[:rewrite_count(order, target)][::-1]
 
 
 def prefix_length(n, m):

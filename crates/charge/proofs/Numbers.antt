@@ -17,7 +17,7 @@ use Rattle.permutation.proofs.Answering.{permutedWith}
 use Rattle.charge.specs.declared.answers.Pushes.{Pushes}
 use Rattle.charge.specs.declared.judge.Call.{Call}
 use Rattle.charge.specs.Counting.{callJudged}
-use Rattle.charge.specs.Answers.{noPushes, donePushes, pushesOf, reading, placeNumber}
+use Rattle.charge.specs.Answers.{noPushes, donePushes, pushesOf, readAnswer, placeNumber}
 
 -- ---- a job that pushes, by its number: k pushes, which leave the levels L′, or none, and the levels L as they were
 
@@ -62,11 +62,11 @@ module _ (L : List ℕ) (i : ℕ) where
       unfolding placeNumber
       place-done h = rw (read-done r, le-leb 2 i low, le-leb i (length L) high) (ceiling-done L 1 h)
 
--- ---- reading
+-- ---- readAnswer
 
 pub read-sorted : {L cells : List ℕ} → Readable L → cells ≡ row (permutationOf L)
-    → _≡_ {A = Permuted} (record { number = 0; permutation = record { n = length L; cells = cells } }) (reading L)
-unfolding reading
+    → _≡_ {A = Permuted} (record { number = 0; permutation = record { n = length L; cells = cells } }) (readAnswer L)
+unfolding readAnswer
 read-sorted {L} r e =
     ap₂ (λ (n : ℕ) (l : List ℕ). record { number = 0; permutation = record { n = n; cells = l } }) (sym (permutationOf-length L)) e
     ∙ answered permutedWith (permutationOf L) [] (read-done r)

@@ -26,21 +26,21 @@ abbrev pub pushesOf : ℕ → ℕ → Pushes
 pushesOf number k = record { number = number; pushes = given number k 0 }
 
 -- "The order lists the names from highest level to lowest."
-unfoldable pub reading : List ℕ → Permuted
-reading L = permuted (readNumber L) (permutationOf L)
+unfoldable pub readAnswer : List ℕ → Permuted
+readAnswer L = permuted (readNumber L) (permutationOf L)
 
 -- a push at place i, 2 to n: size, tie, value, then ceiling
 unfoldable pub placeNumber : List ℕ → ℕ → ℕ
 placeNumber L i = orElse (readNumber L) (orElse (cond (leb 2 i && leb i (length L)) done value) (ceilingOf L 1))
 
 -- a push is one push
-unfoldable pub placePushes : List ℕ → ℕ → Pushes
-placePushes L i = pushesOf (placeNumber L i) 1
+unfoldable pub placeAnswer : List ℕ → ℕ → Pushes
+placeAnswer L i = pushesOf (placeNumber L i) 1
 
 -- "On levels, that cell's level becomes the old top level plus 1 and no other changes."
 unfoldable pub placeLevels : List ℕ → ℕ → List ℕ
 placeLevels L i = given (placeNumber L i) (pushLevel (cellAt i (permutationOf L)) L) L
 
 -- "Count up, rewrite and store, when done, give their number of pushes: k, [..]"
-unfoldable pub counted : List ℕ → ℕ → Pushes
-counted L k = pushesOf (callNumber k L) k
+unfoldable pub callAnswer : List ℕ → ℕ → Pushes
+callAnswer L k = pushesOf (callNumber k L) k

@@ -1,7 +1,7 @@
 // Count up: k next steps, each a push on the levels. The permutation is read once and moved along.
 ghost use mathlib.Core.Path.{_≡_};
 ghost use Rattle.theory.specs.CountUp as meaning;
-ghost use Rattle.charge.specs.Answers.{counted};
+ghost use Rattle.charge.specs.Answers.{callAnswer};
 ghost use Rattle.charge.specs.Counting.{Ready};
 use super::answers::Pushes;
 use super::answers::done_pushes;
@@ -30,7 +30,7 @@ fn count_steps(levels: &mut [u16], cells: &mut [u8; 20], top: u16, k: u16)
 }
 
 pub fn count_up(levels: &mut [u16], k: u32) -> Pushes
-    ensures answer { λ r. ⌜ r ≡ counted (now (levels .entry)) k ⌝ }
+    ensures answer { λ r. ⌜ r ≡ callAnswer (now (levels .entry)) k ⌝ }
     ensures levels_left { λ _. ⌜ now (levels .exit) ≡ meaning.callLevels k (now (levels .entry)) ⌝ }
 {
     let call = judge_call(levels, k);

@@ -39,7 +39,7 @@ pub fn tied(levels: &[u16]) -> bool
 }
 
 // SIZE, TIE, or 0 for levels that have a permutation. For other crates too.
-pub fn fault(levels: &[u16]) -> u8
+pub fn read_number(levels: &[u16]) -> u8
     ensures { λ r. ⌜ r ≡ meaning.readNumber (now (levels .entry)) ⌝ }
 {
     let size = size_of(levels.len());
@@ -77,7 +77,7 @@ pub struct Call {
 pub fn judge_call(levels: &[u16], k: u32) -> Call
     ensures { λ r. ⌜ r ≡ callJudged (now (levels .entry)) k ⌝ }
 {
-    let number = fault(levels);
+    let number = read_number(levels);
     if number != 0 {
         return Call { number, top: 0 };
     }

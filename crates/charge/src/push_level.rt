@@ -1,21 +1,21 @@
 // A push on levels: the level of the cell at a place becomes the highest plus 1, and no other changes.
 ghost use mathlib.Core.Path.{_≡_};
-ghost use Rattle.charge.specs.Answers.{placePushes, placeLevels};
+ghost use Rattle.charge.specs.Answers.{placeAnswer, placeLevels};
 use super::answers::Pushes;
 use super::answers::done_pushes;
 use super::answers::no_pushes;
-use super::judge::fault;
 use super::judge::highest;
+use super::judge::read_number;
 use super::sort::sort_cells;
 use permutation::cell::wide;
 use permutation::reasons::CEILING;
 use permutation::reasons::VALUE;
 
 pub fn push_level(levels: &mut [u16], place: usize) -> Pushes
-    ensures answer { λ r. ⌜ r ≡ placePushes (now (levels .entry)) place ⌝ }
+    ensures answer { λ r. ⌜ r ≡ placeAnswer (now (levels .entry)) place ⌝ }
     ensures levels_left { λ _. ⌜ now (levels .exit) ≡ placeLevels (now (levels .entry)) place ⌝ }
 {
-    let number = fault(levels);
+    let number = read_number(levels);
     if number != 0 {
         return no_pushes(number);
     }

@@ -13,9 +13,9 @@ use Rattle.theory.specs.Successor.{successor}
 use Rattle.theory.proofs.Refusal.{refused, answered, orElse-refused}
 use Rattle.theory.proofs.Padding.{padding}
 use Rattle.theory.proofs.Stepping.{push-permutation}
-use Rattle.permutation.specs.Records.{listOf, recordOf, faultOf}
+use Rattle.permutation.specs.Records.{listOf, recordOf, recordNumber}
 use Rattle.theory.specs.Refusal.{given, orElse}
-use Rattle.permutation.specs.Answers.{noPermutation, pushNumber, pushed, placed}
+use Rattle.permutation.specs.Answers.{noPermutation, pushNumber, pushAnswer, successorAnswer}
 use Rattle.permutation.specs.declared.answers.Permutation.{Permutation}
 use Rattle.permutation.specs.declared.answers.Permuted.{Permuted}
 use Rattle.permutation.proofs.Records.{Sound, fault-record}
@@ -27,19 +27,19 @@ permutedWith number xs = record { number = number; permutation = recordOf xs }
 
 -- ---- push
 module _ (p : Permutation) (i : ℕ) where
-  pub push-fault : {k : ℕ} → k ≡ faultOf p → (k ≡ 0 → ⊥) → noPermutation k ≡ pushed p i
-  unfolding pushed pushNumber
-  push-fault e h = refused permutedWith (push i (listOf p)) [] (orElse-refused (faultOf p) _ e h) h
+  pub push-fault : {k : ℕ} → k ≡ recordNumber p → (k ≡ 0 → ⊥) → noPermutation k ≡ pushAnswer p i
+  unfolding pushAnswer pushNumber
+  push-fault e h = refused permutedWith (push i (listOf p)) [] (orElse-refused (recordNumber p) _ e h) h
 
-  pub push-outside : faultOf p ≡ 0 → (i < 2) ⊎ ((2 ≤ i) × (p .n < i)) → noPermutation value ≡ pushed p i
-  unfolding pushed pushNumber
+  pub push-outside : recordNumber p ≡ 0 → (i < 2) ⊎ ((2 ≤ i) × (p .n < i)) → noPermutation value ≡ pushAnswer p i
+  unfolding pushAnswer pushNumber
   push-outside e h =
       refused permutedWith (push i (listOf p)) []
       (rw e (⊎-elim (λ l. rw (lt-leb 2 i l)) (λ l. rw (le-leb 2 i (l .0), lt-leb i (p .n) (l .1))) h)) (λ z. omega arith)
 
   pub push-done : (cells : List ℕ) → Sound p → 2 ≤ i → i ≤ p .n → cells ≡ push i (p .cells)
-      → _≡_ {A = Permuted} (record { number = 0; permutation = record { n = p .n; cells = cells } }) (pushed p i)
-  unfolding pushed pushNumber
+      → _≡_ {A = Permuted} (record { number = 0; permutation = record { n = p .n; cells = cells } }) (pushAnswer p i)
+  unfolding pushAnswer pushNumber
   push-done cells s low high h =
       ap₂ (λ (k : ℕ) (l : List ℕ). record { number = 0; permutation = record { n = k; cells = l } }) long filled
       ∙ answered permutedWith (push i (listOf p)) [] (rw (s .fault, le-leb 2 i low, le-leb i (p .n) high))
@@ -56,10 +56,10 @@ module _ (n : ℕ) (xs : List ℕ) (few : 2 ≤ n) (many : n ≤ 20) (o : IsPerm
   pub list-record : listOf (recordOf xs) ≡ xs
   list-record = padding xs (omega (arith, o .long)) .first
 
-  pub placed-record : placed (recordOf xs) ≡ record { number = 0; place = successor n xs }
-  unfolding placed
+  pub placed-record : successorAnswer (recordOf xs) ≡ record { number = 0; place = successor n xs }
+  unfolding successorAnswer
   placed-record = rw (fault-record n xs few many o, list-record, o .long)
 
-  pub pushed-record : (i : ℕ) → 2 ≤ i → i ≤ n → pushed (recordOf xs) i ≡ record { number = 0; permutation = recordOf (push i xs) }
-  unfolding pushed pushNumber
+  pub pushed-record : (i : ℕ) → 2 ≤ i → i ≤ n → pushAnswer (recordOf xs) i ≡ record { number = 0; permutation = recordOf (push i xs) }
+  unfolding pushAnswer pushNumber
   pushed-record i low high = rw (fault-record n xs few many o, list-record, o .long, le-leb 2 i low, le-leb i n high)

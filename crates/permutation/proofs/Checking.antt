@@ -5,7 +5,7 @@ use Prim.Native.Nat.{ℕ}
 use lib.ListN.{length, drop, replicate}
 use Rattle.theory.specs.Refusal.{sizeOf}
 use Rattle.theory.proofs.Refusal.{refused}
-use Rattle.permutation.specs.Records.{listOf, onceEach, allZero, faultOf}
+use Rattle.permutation.specs.Records.{listOf, onceEach, allZero, recordNumber}
 use Rattle.permutation.specs.Spots.{spotRow, withoutSpots, spotted, checked, HasSpots}
 use Rattle.permutation.specs.declared.answers.Permutation.{Permutation}
 use Rattle.permutation.specs.declared.validity.Checked.{Checked}
@@ -14,18 +14,18 @@ use Rattle.permutation.proofs.Spots.{row-has-spots}
 
 -- ---- its ways out
 module _ (p : Permutation) where
-  pub check-refused : {number : ℕ} → number ≡ faultOf p → (number ≡ 0 → ⊥) → withoutSpots number ≡ checked p
+  pub check-refused : {number : ℕ} → number ≡ recordNumber p → (number ≡ 0 → ⊥) → withoutSpots number ≡ checked p
   unfolding checked
   check-refused e ne = refused (λ number spots. record { number = number; spots = spots }) (spotRow (listOf p)) (replicate 21 0) e ne
 
   -- n is in its range, and nothing stands past n: the pass over the names decides
   pub check-names : sizeOf (p .n) ≡ 0 → allZero (drop (p .n) (p .cells)) ≡ true → spotted (p .n) (listOf p) ≡ checked p
-  unfolding spotted checked faultOf
+  unfolding spotted checked recordNumber
   check-names sized zeros = rw (sized, zeros, and-true (onceEach (p .n) (listOf p)))
 
 -- ---- what it answered
 module _ (p : Permutation) {r : Checked} (e : r ≡ checked p) where
-  pub check-number : r .number ≡ faultOf p
+  pub check-number : r .number ≡ recordNumber p
   unfolding checked
   check-number = ap (λ (k : Checked). k .number) e
 

@@ -14,7 +14,7 @@ use Rattle.theory.specs.Lists.{count}
 use Rattle.theory.specs.Permutation.{IsPermutation, row}
 use Rattle.theory.proofs.Cases.{by-name}
 use Rattle.theory.proofs.Refusal.{orElse-refused, orElse-done, tested, size-done, size-range}
-use Rattle.permutation.specs.Records.{listOf, recordOf, onceEach, allZero, faultOf}
+use Rattle.permutation.specs.Records.{listOf, recordOf, onceEach, allZero, recordNumber}
 use Rattle.permutation.specs.declared.answers.Permutation.{Permutation}
 
 -- ---- each of 1 to n once
@@ -56,32 +56,32 @@ all-zeros (x ∷ xs) h =
 
 -- ---- why a record is refused, by the tests that tell
 module _ (p : Permutation) where
-  pub fault-size : {number : ℕ} → number ≡ sizeOf (p .n) → (number ≡ 0 → ⊥) → number ≡ faultOf p
-  unfolding faultOf
+  pub fault-size : {number : ℕ} → number ≡ sizeOf (p .n) → (number ≡ 0 → ⊥) → number ≡ recordNumber p
+  unfolding recordNumber
   fault-size e ne = orElse-refused (sizeOf (p .n)) _ e ne
 
   module _ (sized : sizeOf (p .n) ≡ 0) where
-    pub fault-muddle : (onceEach (p .n) (listOf p) && allZero (drop (p .n) (p .cells))) ≡ false → muddle ≡ faultOf p
-    unfolding faultOf
+    pub fault-muddle : (onceEach (p .n) (listOf p) && allZero (drop (p .n) (p .cells))) ≡ false → muddle ≡ recordNumber p
+    unfolding recordNumber
     fault-muddle e = rw (sized, e)
 
-    fault-none : (onceEach (p .n) (listOf p) && allZero (drop (p .n) (p .cells))) ≡ true → done ≡ faultOf p
-    unfolding faultOf
+    fault-none : (onceEach (p .n) (listOf p) && allZero (drop (p .n) (p .cells))) ≡ true → done ≡ recordNumber p
+    unfolding recordNumber
     fault-none e = rw (sized, e)
 
 -- what a record has that is not refused
 pub record Sound (p : Permutation) : Type 0 where
   pub few : 2 ≤ p .n
   pub many : p .n ≤ 20
-  pub fault : faultOf p ≡ 0
+  pub fault : recordNumber p ≡ 0
   pub permutation : IsPermutation (p .n) (listOf p)
   pub is : p ≡ recordOf (listOf p)
 
 abbrev made : ℕ → List ℕ → Permutation
 made k l = record { n = k; cells = l }
 
-pub sound : (p : Permutation) → length (p .cells) ≡ 20 → faultOf p ≡ 0 → Sound p
-unfolding faultOf
+pub sound : (p : Permutation) → length (p .cells) ≡ 20 → recordNumber p ≡ 0 → Sound p
+unfolding recordNumber
 sound p long h =
     let n : ℕ = p .n in
     let rest : List ℕ = drop n (p .cells) in
@@ -102,7 +102,7 @@ sound p long h =
     }
 
 -- the record of a permutation is not refused
-pub fault-record : (n : ℕ) (xs : List ℕ) → 2 ≤ n → n ≤ 20 → IsPermutation n xs → faultOf (recordOf xs) ≡ 0
+pub fault-record : (n : ℕ) (xs : List ℕ) → 2 ≤ n → n ≤ 20 → IsPermutation n xs → recordNumber (recordOf xs) ≡ 0
 fault-record n xs low high o =
     let rest : List ℕ = replicate (20 - length xs) 0 in
     let once : onceEach (length xs) xs ≡ true = rw (o .long) (permutation-once n xs o) in

@@ -8,7 +8,7 @@ use Rattle.theory.specs.Reasons.{done, value}
 use Rattle.theory.specs.Refusal.{given, orElse}
 use Rattle.theory.specs.Push.{push}
 use Rattle.theory.specs.Successor.{successor}
-use Rattle.permutation.specs.Records.{listOf, recordOf, faultOf}
+use Rattle.permutation.specs.Records.{listOf, recordOf, recordNumber}
 use Rattle.permutation.specs.declared.answers.Permutation.{Permutation}
 use Rattle.permutation.specs.declared.answers.Permuted.{Permuted}
 use Rattle.permutation.specs.declared.answers.Placed.{Placed}
@@ -22,12 +22,12 @@ noPermutation number = record { number = number; permutation = recordOf [] }
 
 -- "push place outside 2 to n" is value; size and muddle come first
 unfoldable pub pushNumber : Permutation → ℕ → ℕ
-pushNumber p i = orElse (faultOf p) (cond (leb 2 i && leb i (p .n)) done value)
+pushNumber p i = orElse (recordNumber p) (cond (leb 2 i && leb i (p .n)) done value)
 
 -- "Push at place i, 2 to n: the cell there moves to place 1, and those above it move down one."
-unfoldable pub pushed : Permutation → ℕ → Permuted
-pushed p i = permuted (pushNumber p i) (push i (listOf p))
+unfoldable pub pushAnswer : Permutation → ℕ → Permuted
+pushAnswer p i = permuted (pushNumber p i) (push i (listOf p))
 
 -- "Next step of an order, as the place to push"
-unfoldable pub placed : Permutation → Placed
-placed p = record { number = faultOf p; place = given (faultOf p) (successor (p .n) (listOf p)) 0 }
+unfoldable pub successorAnswer : Permutation → Placed
+successorAnswer p = record { number = recordNumber p; place = given (recordNumber p) (successor (p .n) (listOf p)) 0 }

@@ -29,5 +29,5 @@ allZero [] = true
 allZero (x ∷ xs) = eqb x 0 && allZero xs
 
 -- why a job on a record is refused: size, then muddle, "an order record is not as described above"
-unfoldable pub faultOf : Permutation → ℕ
-faultOf p = orElse (sizeOf (p .n)) (cond (onceEach (p .n) (listOf p) && allZero (drop (p .n) (p .cells))) done muddle)
+unfoldable pub recordNumber : Permutation → ℕ
+recordNumber p = orElse (sizeOf (p .n)) (cond (onceEach (p .n) (listOf p) && allZero (drop (p .n) (p .cells))) done muddle)

@@ -7,7 +7,7 @@ use lib.Dec.{eqb, ltb}
 use lib.ListN.{getD, replicate}
 use Rattle.theory.specs.Reasons.{done, muddle}
 use Rattle.theory.specs.Lists.{member, namesFrom}
-use Rattle.permutation.specs.Records.{listOf, onceEach, faultOf}
+use Rattle.permutation.specs.Records.{listOf, onceEach, recordNumber}
 use Rattle.theory.specs.Refusal.{given}
 use Rattle.permutation.specs.declared.answers.Permutation.{Permutation}
 use Rattle.permutation.specs.declared.validity.Checked.{Checked}
@@ -34,7 +34,7 @@ spotted n xs = spotsIf (cond (onceEach n xs) done muddle) xs
 
 -- the check of a record: why it is refused, or the spots of its list
 unfoldable pub checked : Permutation → Checked
-checked p = spotsIf (faultOf p) (listOf p)
+checked p = spotsIf (recordNumber p) (listOf p)
 
 -- the spots of 1 to n
 pub record HasSpots (xs : List ℕ) (n : ℕ) (spots : List ℕ) : Type 0 where

@@ -3,7 +3,7 @@ ghost use mathlib.Core.Path.{_≡_};
 ghost use Prim.Native.Nat.{_≤_};
 ghost use lib.ListN.{length};
 ghost use Rattle.theory.specs.Push as meaning;
-ghost use Rattle.permutation.specs.Answers.{pushed};
+ghost use Rattle.permutation.specs.Answers.{pushAnswer};
 use super::answers::Permutation;
 use super::answers::Permuted;
 use super::answers::no_permutation;
@@ -31,7 +31,7 @@ fn pushed_row(cells: [u8; 20], place: usize) -> [u8; 20]
 }
 
 pub fn push(permutation: Permutation, place: usize) -> Permuted
-    ensures { λ r. ⌜ r ≡ pushed permutation place ⌝ }
+    ensures { λ r. ⌜ r ≡ pushAnswer permutation place ⌝ }
 {
     let number = check(permutation).number;
     if number != 0 {

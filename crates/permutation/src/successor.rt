@@ -4,7 +4,7 @@ ghost use Prim.Native.Nat.{_≤_};
 ghost use lib.ListN.{length, take};
 ghost use Rattle.theory.specs.Successor as meaning;
 ghost use Rattle.permutation.specs.Records.{recordOf};
-ghost use Rattle.permutation.specs.Answers.{placed};
+ghost use Rattle.permutation.specs.Answers.{successorAnswer};
 use super::answers::Permutation;
 use super::answers::Placed;
 use super::cell::wide;
@@ -43,7 +43,7 @@ pub fn next_place(cells: &[u8; 20], n: usize) -> usize
 }
 
 pub fn successor(permutation: Permutation) -> Placed
-    ensures { λ r. ⌜ r ≡ placed permutation ⌝ }
+    ensures { λ r. ⌜ r ≡ successorAnswer permutation ⌝ }
 {
     let number = check(permutation).number;
     if number != 0 {

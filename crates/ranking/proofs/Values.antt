@@ -16,7 +16,7 @@ use Rattle.theory.proofs.Ranking.{digits-long, digits-rank, ranking}
 use Rattle.permutation.specs.Records.{recordOf}
 use Rattle.permutation.proofs.Records.{fault-record}
 use Rattle.permutation.proofs.Answering.{list-record}
-use Rattle.ranking.specs.Answers.{ranked}
+use Rattle.ranking.specs.Answers.{rankAnswer}
 use Rattle.ranking.specs.BySpots.{Bounded}
 
 pub record Valued (row : List ℕ) (n m value : ℕ) : Type 0 where
@@ -82,6 +82,6 @@ module _ (n : ℕ) (xs : List ℕ) (few : n ≤ 20) where
   row-rank = ap (digitValue n) first ∙ digits-rank n xs
 
 -- the rank of the record of a permutation
-pub ranked-record : (n : ℕ) (xs : List ℕ) → 2 ≤ n → n ≤ 20 → IsPermutation n xs → ranked (recordOf xs) ≡ record { number = 0; rank = rank n xs }
-unfolding ranked
+pub ranked-record : (n : ℕ) (xs : List ℕ) → 2 ≤ n → n ≤ 20 → IsPermutation n xs → rankAnswer (recordOf xs) ≡ record { number = 0; rank = rank n xs }
+unfolding rankAnswer
 ranked-record n xs few many o = rw (fault-record n xs few many o, list-record n xs few many o, o .long)

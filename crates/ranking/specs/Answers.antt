@@ -9,7 +9,7 @@ use Rattle.theory.specs.Factorial.{factorial}
 use Rattle.theory.specs.Permutation.{row}
 use Rattle.theory.specs.Rank.{rank, digits}
 use Rattle.theory.specs.Unrank.{unrank}
-use Rattle.permutation.specs.Records.{listOf, faultOf}
+use Rattle.permutation.specs.Records.{listOf, recordNumber}
 use Rattle.theory.specs.Refusal.{given, orElse, sizeOf}
 use Rattle.permutation.specs.Answers.{permuted}
 use Rattle.permutation.specs.declared.answers.Permutation.{Permutation}
@@ -18,17 +18,17 @@ use Rattle.ranking.specs.declared.answers.Digits.{Digits}
 use Rattle.ranking.specs.declared.answers.Ranked.{Ranked}
 
 -- "Digits b0 first, n of them, the last always 0, in a row of twenty with 0 past n."
-unfoldable pub digited : Permutation → Digits
-digited p = record { number = faultOf p; row = row (given (faultOf p) (digits (p .n) (listOf p)) []) }
+unfoldable pub digitsAnswer : Permutation → Digits
+digitsAnswer p = record { number = recordNumber p; row = row (given (recordNumber p) (digits (p .n) (listOf p)) []) }
 
 -- "Rank = digit + n × rank of the remaining order"
-unfoldable pub ranked : Permutation → Ranked
-ranked p = record { number = faultOf p; rank = given (faultOf p) (rank (p .n) (listOf p)) 0 }
+unfoldable pub rankAnswer : Permutation → Ranked
+rankAnswer p = record { number = recordNumber p; rank = given (recordNumber p) (rank (p .n) (listOf p)) 0 }
 
 -- "rank at or above n!" is value
 unfoldable pub unrankNumber : ℕ → ℕ → ℕ
 unrankNumber n r = orElse (sizeOf n) (cond (ltb r (factorial n)) done value)
 
 -- "order of a rank"
-unfoldable pub unranked : ℕ → ℕ → Permuted
-unranked n r = permuted (unrankNumber n r) (unrank n r)
+unfoldable pub unrankAnswer : ℕ → ℕ → Permuted
+unrankAnswer n r = permuted (unrankNumber n r) (unrank n r)

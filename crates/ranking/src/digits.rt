@@ -4,7 +4,7 @@ ghost use mathlib.Core.Bool.{true, false};
 ghost use Prim.Native.Nat.{_+_, _≤_, _<_};
 ghost use lib.ListN.{length};
 ghost use Rattle.theory.specs.Rank as meaning;
-ghost use Rattle.ranking.specs.Answers.{digited};
+ghost use Rattle.ranking.specs.Answers.{digitsAnswer};
 ghost use Rattle.ranking.specs.BySpots.{Low, passed, readInto};
 use super::answers::Digits;
 use permutation::answers::Permutation;
@@ -60,7 +60,7 @@ fn read_up(spots: &[u8; 21], n: usize, s: usize, m: usize, row: &mut [u8; 20])
 }
 
 pub fn digits(permutation: Permutation) -> Digits
-    ensures { λ r. ⌜ r ≡ digited permutation ⌝ }
+    ensures { λ r. ⌜ r ≡ digitsAnswer permutation ⌝ }
 {
     let checked = check(permutation);
     let number = checked.number;

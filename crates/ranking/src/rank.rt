@@ -2,7 +2,7 @@
 ghost use mathlib.Core.Path.{_≡_};
 ghost use lib.ListN.{take};
 ghost use Rattle.theory.specs.Rank as meaning;
-ghost use Rattle.ranking.specs.Answers.{ranked};
+ghost use Rattle.ranking.specs.Answers.{rankAnswer};
 ghost use Rattle.ranking.specs.BySpots.{Bounded};
 use super::answers::Ranked;
 use super::digits::digits;
@@ -25,7 +25,7 @@ fn row_value(row: [u8; 20], n: usize) -> u64
 }
 
 pub fn rank(permutation: Permutation) -> Ranked
-    ensures { λ r. ⌜ r ≡ ranked permutation ⌝ }
+    ensures { λ r. ⌜ r ≡ rankAnswer permutation ⌝ }
 {
     let found = digits(permutation);
     let number = found.number;

@@ -5,7 +5,7 @@ ghost use mathlib.Core.List.{_++_};
 ghost use Prim.Native.Nat.{_+_, _≤_, _<_};
 ghost use lib.ListN.{length, drop};
 ghost use Rattle.theory.specs.Unrank as meaning;
-ghost use Rattle.ranking.specs.Answers.{unranked};
+ghost use Rattle.ranking.specs.Answers.{unrankAnswer};
 ghost use Rattle.ranking.specs.BySpots.{spotAfter, cellsBySpots};
 use super::factorials::factorial;
 use permutation::answers::Permutation;
@@ -61,7 +61,7 @@ fn filled_row(cells: [u8; 20], n: usize, rank: u64) -> [u8; 20]
 }
 
 pub fn unrank(n: usize, rank: u64) -> Permuted
-    ensures { λ r. ⌜ r ≡ unranked n rank ⌝ }
+    ensures { λ r. ⌜ r ≡ unrankAnswer n rank ⌝ }
 {
     let size = size_of(n);
     if size != 0 {

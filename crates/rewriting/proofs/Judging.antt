@@ -8,38 +8,38 @@ use Rattle.theory.specs.Reasons.{fit}
 use Rattle.theory.specs.Refusal.{orElse, sizeOf}
 use Rattle.theory.specs.Levels.{readNumber}
 use Rattle.theory.proofs.Refusal.{orElse-refused}
-use Rattle.permutation.specs.Records.{faultOf}
+use Rattle.permutation.specs.Records.{recordNumber}
 use Rattle.permutation.specs.declared.answers.Permutation.{Permutation}
-use Rattle.rewriting.specs.Answers.{rewriteFault}
+use Rattle.rewriting.specs.Answers.{targetNumber}
 
 module _ (L : List ℕ) (target : Permutation) (room : ℕ) where
-  pub judge-group : {number : ℕ} → number ≡ sizeOf (length L) → (number ≡ 0 → ⊥) → number ≡ rewriteFault L target room
-  unfolding rewriteFault
+  pub judge-group : {number : ℕ} → number ≡ sizeOf (length L) → (number ≡ 0 → ⊥) → number ≡ targetNumber L target room
+  unfolding targetNumber
   judge-group e ne = orElse-refused (sizeOf (length L)) _ e ne
 
   module _ (group : sizeOf (length L) ≡ 0) where
-    pub judge-size : {number : ℕ} → number ≡ sizeOf (target .n) → (number ≡ 0 → ⊥) → number ≡ rewriteFault L target room
-    unfolding rewriteFault
+    pub judge-size : {number : ℕ} → number ≡ sizeOf (target .n) → (number ≡ 0 → ⊥) → number ≡ targetNumber L target room
+    unfolding targetNumber
     judge-size e ne = rw group (orElse-refused (sizeOf (target .n)) _ e ne)
 
     module _ (size : sizeOf (target .n) ≡ 0) where
-      pub judge-other : (target .n ≡ length L → ⊥) → fit ≡ rewriteFault L target room
-      unfolding rewriteFault
+      pub judge-other : (target .n ≡ length L → ⊥) → fit ≡ targetNumber L target room
+      unfolding targetNumber
       judge-other ne = rw (group, size, ne-eqb (target .n) (length L) ne)
 
       module _ (same : target .n ≡ length L) where
-        pub judge-short : room < length L - 1 → fit ≡ rewriteFault L target room
-        unfolding rewriteFault
+        pub judge-short : room < length L - 1 → fit ≡ targetNumber L target room
+        unfolding targetNumber
         judge-short h = rw (group, size, eq-eqb (target .n) (length L) same, lt-leb (length L - 1) room h)
 
         module _ (fits : length L - 1 ≤ room) where
-          fitting : rewriteFault L target room ≡ orElse (faultOf target) (readNumber L)
-          unfolding rewriteFault
+          fitting : targetNumber L target room ≡ orElse (recordNumber target) (readNumber L)
+          unfolding targetNumber
           fitting = rw (group, size, eq-eqb (target .n) (length L) same, le-leb (length L - 1) room fits)
 
-          pub judge-muddle : {number : ℕ} → number ≡ faultOf target → (number ≡ 0 → ⊥) → number ≡ rewriteFault L target room
-          judge-muddle e ne = rw fitting (orElse-refused (faultOf target) (readNumber L) e ne)
+          pub judge-muddle : {number : ℕ} → number ≡ recordNumber target → (number ≡ 0 → ⊥) → number ≡ targetNumber L target room
+          judge-muddle e ne = rw fitting (orElse-refused (recordNumber target) (readNumber L) e ne)
 
           -- tie or done
-          pub judge-levels : faultOf target ≡ 0 → readNumber L ≡ rewriteFault L target room
+          pub judge-levels : recordNumber target ≡ 0 → readNumber L ≡ targetNumber L target room
           judge-levels e = rw (fitting, e)

@@ -11,23 +11,23 @@ use lib.Seq.{take-take, getD-take}
 use Rattle.theory.specs.Permutation.{IsPermutation, row}
 use Rattle.theory.specs.Levels.{permutationOf, pushLevels, readNumber}
 use Rattle.theory.specs.CountUp.{ceilingOf}
-use Rattle.theory.specs.Rewrite.{rewriteNumber, rewritePushes}
+use Rattle.theory.specs.Rewrite.{rewriteCount, rewritePushes}
 use Rattle.theory.specs.Claims.{Rewriting}
 use Rattle.theory.proofs.Members.{entry-inside}
 use Rattle.theory.proofs.Sorting.{permutationOf-permutation}
 use Rattle.theory.proofs.Reading as theory
 use Rattle.theory.proofs.Rewriting.{rewriting}
-use Rattle.permutation.specs.Records.{listOf, recordOf, faultOf}
+use Rattle.permutation.specs.Records.{listOf, recordOf, recordNumber}
 use Rattle.theory.specs.Refusal.{given, sizeOf}
 use Rattle.permutation.specs.declared.answers.Permutation.{Permutation}
 use Rattle.permutation.proofs.Records.{sound}
 use Rattle.theory.proofs.Refusal.{refused, answered, given-done, given-refused, given-so, orElse-refused, orElse-done, tested, Readable, readable, read-done}
 use Rattle.permutation.proofs.Answering.{permutedWith}
-use Rattle.charge.specs.Answers.{noPushes, pushesOf, reading}
+use Rattle.charge.specs.Answers.{noPushes, pushesOf, readAnswer}
 use Rattle.charge.specs.declared.answers.Pushes.{Pushes}
 use Rattle.charge.proofs.Sorting.{row-first}
 use Rattle.charge.proofs.Numbers.{pushes-refused}
-use Rattle.rewriting.specs.Answers.{fitOf, pushesTo, rewriteFault, rewriteReason, rewritten, rewriteLevels, rewriteList, RewriteOf}
+use Rattle.rewriting.specs.Answers.{fitOf, pushesTo, targetNumber, rewriteNumber, rewriteAnswer, rewriteLevels, rewriteList, RewriteOf}
 use Rattle.rewriting.specs.Raising.{Pushable, raised}
 use Rattle.rewriting.proofs.Standing.{row-readable}
 use Rattle.rewriting.proofs.Targets.{target-permutation}
@@ -36,18 +36,18 @@ use Rattle.rewriting.proofs.Targets.{target-permutation}
 
 -- what is then known of the levels, of the target and of the room in the push list
 pub record Judged (L : List ℕ) (target : Permutation) (room : ℕ) : Type 0 where
-  pub none : rewriteFault L target room ≡ 0
+  pub none : targetNumber L target room ≡ 0
   pub readable : Readable L
-  pub fault : faultOf target ≡ 0
+  pub fault : recordNumber target ≡ 0
   pub same : target .n ≡ length L
   pub enough : length L - 1 ≤ room
 
-pub judged : {L : List ℕ} {target : Permutation} {room : ℕ} → rewriteFault L target room ≡ 0 → Judged L target room
-unfolding rewriteFault
+pub judged : {L : List ℕ} {target : Permutation} {room : ℕ} → targetNumber L target room ≡ 0 → Judged L target room
+unfolding targetNumber
 judged {L} {target} {room} h =
     let past-target = orElse-done (sizeOf (target .n)) _ (orElse-done (sizeOf (length L)) _ h .1) .1 in
     let past-fit = orElse-done (fitOf L target room) _ past-target in
-    let last = orElse-done (faultOf target) (readNumber L) (past-fit .1) in
+    let last = orElse-done (recordNumber target) (readNumber L) (past-fit .1) in
     let f = and-eq-true-iff (eqb (target .n) (length L)) (leb (length L - 1) room) .0 (tested (eqb (target .n) (length L) && leb (length L - 1) room) (λ z. omega arith) (past-fit .0)) in
     record {
       none = h;
@@ -66,7 +66,7 @@ module _ {L : List ℕ} {target : Permutation} {room : ℕ} (j : Judged L target
       rewriting (length L) (permutationOf L) (listOf target) (omega (arith, j .readable .few)) (permutationOf-permutation L) target-is
 
   -- r is found on the sorted row
-  pub sorted-number : {cells : List ℕ} {r : ℕ} → cells ≡ row (permutationOf L) → r ≡ rewriteNumber (take (target .n) cells) (listOf target)
+  pub sorted-number : {cells : List ℕ} {r : ℕ} → cells ≡ row (permutationOf L) → r ≡ rewriteCount (take (target .n) cells) (listOf target)
       → r ≡ pushesTo L target
   sorted-number sorted e = e ∙ rw (j .same, row-first L (j .readable .many) sorted)
 
@@ -93,7 +93,7 @@ module _ {L : List ℕ} {target : Permutation} {room : ℕ} (j : Judged L target
   -- the levels that the pushes leave are read as the target
   rewrite-read : {L′ : List ℕ} {r : ℕ} → length (target .cells) ≡ 20 → L′ ≡ pushLevels (rewritePushes (permutationOf L) (listOf target)) L
       → r ≡ pushesTo L target → RewriteOf L target L′ r
-  unfolding reading
+  unfolding readAnswer
   rewrite-read {L′} {r} long e is =
       let cs : List ℕ = rewritePushes (permutationOf L) (listOf target) in
       let left : permutationOf L′ ≡ listOf target =
@@ -107,27 +107,27 @@ module _ {L : List ℕ} {target : Permutation} {room : ℕ} (j : Judged L target
 
 -- whatever is asked, levels with a permutation keep one
 pub rewrite-readable : {L : List ℕ} → Readable L → (target : Permutation) (room : ℕ) → Readable (rewriteLevels L target room)
-unfolding rewriteLevels rewriteReason
+unfolding rewriteLevels rewriteNumber
 rewrite-readable {L} r target room =
-    given-so Readable (rewriteReason L target room) _ L r
-    (λ z. row-readable (rewritePushes (permutationOf L) (listOf target)) (rewrites (judged (orElse-done (rewriteFault L target room) _ z .0)) .cells) r)
+    given-so Readable (rewriteNumber L target room) _ L r
+    (λ z. row-readable (rewritePushes (permutationOf L) (listOf target)) (rewrites (judged (orElse-done (targetNumber L target room) _ z .0)) .cells) r)
 
 -- ---- the answer
 
 -- what the contract says of an answer, and of the levels and the list that are left
 abbrev Answered : List ℕ → Permutation → List ℕ → Pushes → List ℕ → List ℕ → Type 0
 Answered L target list a L′ list′ =
-    (a ≡ rewritten L target (length list))
+    (a ≡ rewriteAnswer L target (length list))
     × ((L′ ≡ rewriteLevels L target (length list))
     × ((list′ ≡ rewriteList L target list)
     × (a .number ≡ 0 → RewriteOf L target L′ (a .pushes))))
 
 module _ (L : List ℕ) (target : Permutation) (list : List ℕ) where
-  pub rewrite-fault : {a : Pushes} {number : ℕ} → a ≡ noPushes number → number ≡ rewriteFault L target (length list) → (number ≡ 0 → ⊥)
+  pub rewrite-fault : {a : Pushes} {number : ℕ} → a ≡ noPushes number → number ≡ targetNumber L target (length list) → (number ≡ 0 → ⊥)
       → Answered L target list a L list
-  unfolding rewritten rewriteLevels rewriteList rewriteReason
+  unfolding rewriteAnswer rewriteLevels rewriteList rewriteNumber
   rewrite-fault e fault ne =
-      let is = orElse-refused (rewriteFault L target (length list)) (ceilingOf L (pushesTo L target)) fault ne in
+      let is = orElse-refused (targetNumber L target (length list)) (ceilingOf L (pushesTo L target)) fault ne in
       let cs : List ℕ = rewritePushes (permutationOf L) (listOf target) in
       let b = pushes-refused (pushesTo L target) L (pushLevels cs L) e is ne in
       (b .0, (b .1, (refused (λ number left. left) (cs ++ drop (pushesTo L target) list) list is ne, λ z. absurd (ne (sym (ap (λ (a : Pushes). a .number) e) ∙ z)))))
@@ -135,8 +135,8 @@ module _ (L : List ℕ) (target : Permutation) (list : List ℕ) where
   -- the answer of r pushes is that of the job where r is its number of pushes, and the list gets their names where it is done
   module _ (j : Judged L target (length list)) (long : length (target .cells) ≡ 20) {r : ℕ} {a : Pushes} {L′ : List ℕ}
       (k : (a ≡ pushesOf (ceilingOf L r) r) × (L′ ≡ raised L (target .cells) r)) (is : r ≡ pushesTo L target) where
-    reason-is : rewriteReason L target (length list) ≡ ceilingOf L r
-    unfolding rewriteReason
+    reason-is : rewriteNumber L target (length list) ≡ ceilingOf L r
+    unfolding rewriteNumber
     reason-is = rw (j .none, is)
 
     number-is : a .number ≡ ceilingOf L r
@@ -146,7 +146,7 @@ module _ (L : List ℕ) (target : Permutation) (list : List ℕ) where
     names = reverse (take r (target .cells)) ++ drop r list
 
     all-answered : {list′ : List ℕ} → list′ ≡ given (ceilingOf L r) names list → Answered L target list a L′ list′
-    unfolding rewritten rewriteLevels rewriteList raised names
+    unfolding rewriteAnswer rewriteLevels rewriteList raised names
     all-answered list-is =
         let left : L′ ≡ given (ceilingOf L r) (pushLevels (rewritePushes (permutationOf L) (listOf target)) L) L = k .1 ∙ rw (pushes-are j is) in (
           k .0 ∙ rw (reason-is, is),

@@ -5,7 +5,7 @@ use Prim.Native.Nat.{ℕ, suc, _-_, _≤_, _<_}
 use native.Mathlib.Omega.{arith}
 use lib.ListN.{length, getD, take}
 use lib.Seq.{length-take-le, getD-take, slice, slice-empty, slice-cons}
-use Rattle.theory.specs.Rewrite.{rewriteNumber}
+use Rattle.theory.specs.Rewrite.{rewriteCount}
 use Rattle.theory.proofs.Rewriting.{rewrite-none, rewrite-crossed, rewrite-passed}
 
 -- the cells from index i on leave r of the target's n
@@ -13,7 +13,7 @@ pub record Crossing (cells target : List ℕ) (n r i : ℕ) : Type 0 where
   pub enough : n ≤ length cells
   pub below : i ≤ r
   pub within : r ≤ n
-  pub is : r ≡ rewriteNumber (slice i n cells) (take n target)
+  pub is : r ≡ rewriteCount (slice i n cells) (take n target)
 
 pub start : {cells target : List ℕ} {n : ℕ} → n ≤ length cells → n ≤ length target → Crossing cells target n n n
 start {cells} {target} {n} h k = record {
@@ -24,7 +24,7 @@ start {cells} {target} {n} h k = record {
 }
 
 module _ {cells target : List ℕ} {n r i : ℕ} (v : Crossing cells target n r i) where
-  pub end : i ≤ 0 → r ≡ rewriteNumber (take n cells) (take n target)
+  pub end : i ≤ 0 → r ≡ rewriteCount (take n cells) (take n target)
   end h =
       let e : i ≡ 0 = omega arith in
       rw e at (v .is)

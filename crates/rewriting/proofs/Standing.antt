@@ -12,11 +12,11 @@ use Rattle.theory.proofs.Reading as theory
 use Rattle.theory.proofs.Reading.{reads-row, row-length}
 use Rattle.permutation.specs.Records.{recordOf}
 use Rattle.permutation.specs.declared.answers.Permuted.{Permuted}
-use Rattle.charge.specs.Answers.{reading}
+use Rattle.charge.specs.Answers.{readAnswer}
 use Rattle.theory.proofs.Refusal.{Readable, readable}
 
-pub number-is : (L : List ℕ) {r : Permuted} → r ≡ reading L → r .number ≡ readNumber L
-unfolding reading
+pub number-is : (L : List ℕ) {r : Permuted} → r ≡ readAnswer L → r .number ≡ readNumber L
+unfolding readAnswer
 number-is L e = ap (λ (a : Permuted). a .number) e
 
 -- it was read: it stands in a record
@@ -24,8 +24,8 @@ pub record Standing (L : List ℕ) (r : Permuted) : Type 0 where
   pub levels : Readable L
   pub is : r .permutation ≡ recordOf (permutationOf L)
 
-pub standing : (L : List ℕ) {r : Permuted} → r ≡ reading L → r .number ≡ 0 → Standing L r
-unfolding reading
+pub standing : (L : List ℕ) {r : Permuted} → r ≡ readAnswer L → r .number ≡ 0 → Standing L r
+unfolding readAnswer
 standing L e z =
     let done = sym (number-is L e) ∙ z in
     record { levels = readable done; is = ap (λ (a : Permuted). a .permutation) e ∙ rw done }

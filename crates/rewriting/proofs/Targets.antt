@@ -10,7 +10,7 @@ use Rattle.theory.specs.Lists.{count}
 use Rattle.theory.specs.Permutation.{IsPermutation}
 use Rattle.theory.proofs.Cases.{by-test}
 use Rattle.theory.proofs.Counts.{delta-ne, Split, split, Adds, adds-between}
-use Rattle.permutation.specs.Records.{listOf, onceEach, faultOf}
+use Rattle.permutation.specs.Records.{listOf, onceEach, recordNumber}
 use Rattle.permutation.specs.declared.answers.Permutation.{Permutation}
 use Rattle.permutation.proofs.Records.{once-count}
 
@@ -27,14 +27,14 @@ enough-places (suc m) xs once =
           (λ c low high. omega (arith, a .more c, once c low (omega arith), delta-ne (suc m) c (λ e. omega arith))),
     )
 
-target-once : (p : Permutation) → faultOf p ≡ 0 → onceEach (p .n) (listOf p) ≡ true
-unfolding faultOf
+target-once : (p : Permutation) → recordNumber p ≡ 0 → onceEach (p .n) (listOf p) ≡ true
+unfolding recordNumber
 target-once p h =
     by-test (sized (p .n))
     (λ s. by-test (onceEach (p .n) (listOf p)) (λ o. o) (λ o. absurd (omega (arith, rw (s, o) at h))))
     (λ s. absurd (omega (arith, rw s at h)))
 
-pub target-permutation : (p : Permutation) → faultOf p ≡ 0 → IsPermutation (p .n) (listOf p)
+pub target-permutation : (p : Permutation) → recordNumber p ≡ 0 → IsPermutation (p .n) (listOf p)
 target-permutation p h =
     let once = once-count (p .n) (listOf p) (target-once p h) in
     record { long = omega (arith, enough-places (p .n) (listOf p) once, length-take (p .n) (p .cells)); once = once }

@@ -10,11 +10,11 @@ use Rattle.theory.specs.Reasons.{done, fit}
 use Rattle.theory.specs.Push.{pushes, Places}
 use Rattle.theory.specs.Levels.{permutationOf, pushLevels, readNumber}
 use Rattle.theory.specs.CountUp.{ceilingOf}
-use Rattle.theory.specs.Rewrite.{rewriteNumber, rewritePushes}
-use Rattle.permutation.specs.Records.{listOf, faultOf}
+use Rattle.theory.specs.Rewrite.{rewriteCount, rewritePushes}
+use Rattle.permutation.specs.Records.{listOf, recordNumber}
 use Rattle.theory.specs.Refusal.{given, orElse, sizeOf}
 use Rattle.permutation.specs.declared.answers.Permutation.{Permutation}
-use Rattle.charge.specs.Answers.{pushesOf, reading}
+use Rattle.charge.specs.Answers.{pushesOf, readAnswer}
 use Rattle.charge.specs.declared.answers.Pushes.{Pushes}
 
 -- "target's n differs from the group's, or a push list has fewer than n - 1 bytes"
@@ -22,34 +22,34 @@ abbrev pub fitOf : List ℕ → Permutation → ℕ → ℕ
 fitOf L target room = cond (eqb (target .n) (length L) && leb (length L - 1) room) done fit
 
 -- size, "for the group first, then for a target"; fit; muddle, which is all that is left of the target's reasons; tie, all that is left of the group's
-unfoldable pub rewriteFault : List ℕ → Permutation → ℕ → ℕ
-rewriteFault L target room =
-    orElse (sizeOf (length L)) (orElse (sizeOf (target .n)) (orElse (fitOf L target room) (orElse (faultOf target) (readNumber L))))
+unfoldable pub targetNumber : List ℕ → Permutation → ℕ → ℕ
+targetNumber L target room =
+    orElse (sizeOf (length L)) (orElse (sizeOf (target .n)) (orElse (fitOf L target room) (orElse (recordNumber target) (readNumber L))))
 
 -- "r is the smallest number for which [..]", from the permutation of the levels
 abbrev pub pushesTo : List ℕ → Permutation → ℕ
-pushesTo L target = rewriteNumber (permutationOf L) (listOf target)
+pushesTo L target = rewriteCount (permutationOf L) (listOf target)
 
 -- "A ceiling is judged on the whole job, before its first push."
-unfoldable pub rewriteReason : List ℕ → Permutation → ℕ → ℕ
-rewriteReason L target room = orElse (rewriteFault L target room) (ceilingOf L (pushesTo L target))
+unfoldable pub rewriteNumber : List ℕ → Permutation → ℕ → ℕ
+rewriteNumber L target room = orElse (targetNumber L target room) (ceilingOf L (pushesTo L target))
 
 -- "Count up, rewrite and store, when done, give their number of pushes: [..] r"
-unfoldable pub rewritten : List ℕ → Permutation → ℕ → Pushes
-rewritten L target room = pushesOf (rewriteReason L target room) (pushesTo L target)
+unfoldable pub rewriteAnswer : List ℕ → Permutation → ℕ → Pushes
+rewriteAnswer L target room = pushesOf (rewriteNumber L target room) (pushesTo L target)
 
 -- "The target's cells r, r-1, ..., 1 are pushed."
 unfoldable pub rewriteLevels : List ℕ → Permutation → ℕ → List ℕ
-rewriteLevels L target room = given (rewriteReason L target room) (pushLevels (rewritePushes (permutationOf L) (listOf target)) L) L
+rewriteLevels L target room = given (rewriteNumber L target room) (pushLevels (rewritePushes (permutationOf L) (listOf target)) L) L
 
 -- "The push list gets those r names in that sequence from its start; its later bytes keep their values."
 unfoldable pub rewriteList : List ℕ → Permutation → List ℕ → List ℕ
 rewriteList L target list =
-    given (rewriteReason L target (length list)) (rewritePushes (permutationOf L) (listOf target) ++ drop (pushesTo L target) list) list
+    given (rewriteNumber L target (length list)) (rewritePushes (permutationOf L) (listOf target) ++ drop (pushesTo L target) list) list
 
 -- a rewrite of L that was done with r pushes and left L′
 pub record RewriteOf (L : List ℕ) (target : Permutation) (L′ : List ℕ) (r : ℕ) : Type 0 where
   -- the permutation then read is the target
-  pub read : reading L′ ≡ record { number = 0; permutation = target }
+  pub read : readAnswer L′ ≡ record { number = 0; permutation = target }
   -- no shorter row of pushes gives the target
   pub fewest : (is : List ℕ) → Places (length L) is → pushes is (permutationOf L) ≡ listOf target → r ≤ length is

@@ -4,11 +4,11 @@ ghost use mathlib.Core.List.{_++_, reverse};
 ghost use Prim.Native.Nat.{_≤_};
 ghost use lib.ListN.{length, take, drop};
 ghost use Rattle.theory.specs.Rewrite as meaning;
-ghost use Rattle.rewriting.specs.Answers.{rewriteFault, rewritten, rewriteLevels, rewriteList, RewriteOf};
+ghost use Rattle.rewriting.specs.Answers.{targetNumber, rewriteAnswer, rewriteLevels, rewriteList, RewriteOf};
 use super::raise::raise;
 use charge::answers::Pushes;
 use charge::answers::no_pushes;
-use charge::judge::fault;
+use charge::judge::read_number;
 use charge::sort::sort_cells;
 use permutation::answers::Permutation;
 use permutation::reasons::FIT;
@@ -17,7 +17,7 @@ use permutation::validity::check;
 
 // SIZE, FIT, MUDDLE, TIE or 0: all but the ceiling, which is judged on the pushes. `room` is the length of the push list.
 fn judge(levels: &[u16], target: Permutation, room: usize) -> u8
-    ensures { λ r. ⌜ r ≡ rewriteFault (now (levels .entry)) target room ⌝ }
+    ensures { λ r. ⌜ r ≡ targetNumber (now (levels .entry)) target room ⌝ }
 {
     let n = levels.len();
     let group = size_of(n);
@@ -38,13 +38,13 @@ fn judge(levels: &[u16], target: Permutation, room: usize) -> u8
     if checked != 0 {
         return checked;
     }
-    fault(levels)
+    read_number(levels)
 }
 
 // Goes up the permutation and crosses off the target's cells from its last one on; those that are left must be pushed.
-fn rewrite_number(cells: &[u8; 20], target: &[u8; 20], n: usize) -> usize
+fn rewrite_count(cells: &[u8; 20], target: &[u8; 20], n: usize) -> usize
     requires { ⌜ (n ≤ 20) × (length (now cells) ≡ 20) × (length (now target) ≡ 20) ⌝ }
-    ensures { λ r. ⌜ r ≡ meaning.rewriteNumber (take n (now (cells .entry))) (take n (now (target .entry))) ⌝ }
+    ensures { λ r. ⌜ r ≡ meaning.rewriteCount (take n (now (cells .entry))) (take n (now (target .entry))) ⌝ }
 {
     let mut r = n;
     let mut i = n;
@@ -71,7 +71,7 @@ fn list_pushes(list: &mut [u8], cells: &[u8; 20], r: usize)
 
 // `reached`: the target is what is then read, and no shorter row of pushes leads to it.
 pub fn rewrite(levels: &mut [u16], target: Permutation, list: &mut [u8]) -> Pushes
-    ensures answer { λ r. ⌜ r ≡ rewritten (now (levels .entry)) target (length (now (list .entry))) ⌝ }
+    ensures answer { λ r. ⌜ r ≡ rewriteAnswer (now (levels .entry)) target (length (now (list .entry))) ⌝ }
     ensures levels_left { λ _. ⌜ now (levels .exit) ≡ rewriteLevels (now (levels .entry)) target (length (now (list .entry))) ⌝ }
     ensures list_left { λ _. ⌜ now (list .exit) ≡ rewriteList (now (levels .entry)) target (now (list .entry)) ⌝ }
     ensures reached { λ r. ⌜ (r .number ≡ 0 → RewriteOf (now (levels .entry)) target (now (levels .exit)) (r .pushes)) ⌝ }
@@ -84,7 +84,7 @@ pub fn rewrite(levels: &mut [u16], target: Permutation, list: &mut [u8]) -> Push
     sort_cells(levels, &mut cells);
     let to = target.cells;
     let n = target.n;
-    let r = rewrite_number(&cells, &to, n);
+    let r = rewrite_count(&cells, &to, n);
     let answer = raise(levels, &to, r);
     if answer.number == 0 {
         list_pushes(list, &to, r);

@@ -19,10 +19,10 @@ use Rattle.theory.proofs.FilledRow.{filled-all}
 use Rattle.theory.proofs.InTurn.{InTurn, turn-none, turn-more, turn-left}
 use Rattle.theory.proofs.CallLists.{after-next, done-snoc, numbers-long, after-length, number-at, steps-fit}
 use Rattle.theory.proofs.Demand3.{demand3}
-use Rattle.charge.specs.Answers.{noPushes, donePushes, counted}
+use Rattle.charge.specs.Answers.{noPushes, donePushes, callAnswer}
 use Rattle.charge.specs.declared.answers.Pushes.{Pushes}
 use Rattle.charge.proofs.Numbers.{pushes-refused, pushes-done}
-use Rattle.runs.specs.Calls.{callsNumber, called, calledLevels, calledNumbers, sumDone, CallsOf}
+use Rattle.runs.specs.Calls.{callsNumber, callsAnswer, calledLevels, calledNumbers, sumDone, CallsOf}
 use Rattle.runs.proofs.Running.{run-of}
 
 -- the steps that the first i calls did are those of the ones with number 0
@@ -57,9 +57,9 @@ module _ {L ks numbers₀ : List ℕ} {i : ℕ} {levels numbers : List ℕ} {pus
     next-pushes = rw (add-one i, take-suc ks i 0 more, v .pushes-are, levels-are) (sym (done-snoc (take i ks) L k))
 
     -- by the answer of the call, and the levels that it left
-    pub made-more : (answer : Pushes) (after : List ℕ) → answer ≡ counted levels k → after ≡ callLevels k levels
+    pub made-more : (answer : Pushes) (after : List ℕ) → answer ≡ callAnswer levels k → after ≡ callLevels k levels
         → (pushes + answer .pushes ≤ 65535) × Made L ks numbers₀ (i + 1) after (set numbers i (answer .number)) (pushes + answer .pushes)
-    unfolding counted callPushes
+    unfolding callAnswer callPushes
     made-more answer after e f = rw (e, f) (
       rw next-pushes (steps-fit (take (i + 1) ks) L),
       record {
@@ -71,7 +71,7 @@ module _ {L ks numbers₀ : List ℕ} {i : ℕ} {levels numbers : List ℕ} {pus
 -- what the contract says of an answer, and of the levels and the numbers that are left
 abbrev Answered : List ℕ → List ℕ → List ℕ → Pushes → List ℕ → List ℕ → Type 0
 Answered L ks numbers₀ a levels numbers =
-    (a ≡ called L ks numbers₀) × ((levels ≡ calledLevels L ks numbers₀) × (numbers ≡ calledNumbers L ks numbers₀))
+    (a ≡ callsAnswer L ks numbers₀) × ((levels ≡ calledLevels L ks numbers₀) × (numbers ≡ calledNumbers L ks numbers₀))
 
 -- ---- all calls were made
 module _ {L ks numbers₀ : List ℕ} {i : ℕ} {levels numbers : List ℕ} {pushes : ℕ} (v : Made L ks numbers₀ i levels numbers pushes) (all : length ks ≤ i) where
@@ -87,7 +87,7 @@ module _ {L ks numbers₀ : List ℕ} {i : ℕ} {levels numbers : List ℕ} {pus
   pushes-all = v .pushes-are ∙ rw (take-all i ks all)
 
   pub called-done : {a : Pushes} → a ≡ donePushes pushes → Answered L ks numbers₀ a levels numbers
-  unfolding called calledLevels calledNumbers
+  unfolding callsAnswer calledLevels calledNumbers
   called-done e =
       let fits : callsNumber ks numbers₀ ≡ 0 = rw (le-leb (length ks) (length numbers₀) (v .in-turn .answered .room)) in
       let b = pushes-done (stepsDone ks L) L (afterCalls ks L) (e ∙ ap donePushes pushes-all) fits levels-all in
@@ -129,7 +129,7 @@ module _ {L ks numbers₀ : List ℕ} {i : ℕ} {levels numbers : List ℕ} {pus
 
 -- there is no place for each call's number
 pub called-refused : (L ks numbers₀ : List ℕ) {a : Pushes} → a ≡ noPushes fit → length numbers₀ < length ks → Answered L ks numbers₀ a L numbers₀
-unfolding called calledLevels calledNumbers
+unfolding callsAnswer calledLevels calledNumbers
 called-refused L ks numbers₀ e short =
     let is : fit ≡ callsNumber ks numbers₀ = rw (lt-leb (length ks) (length numbers₀) short) in
     let ne : fit ≡ 0 → ⊥ = λ z. omega arith in

@@ -16,14 +16,14 @@ use Rattle.theory.proofs.Sorting.{permutationOf-permutation, reads-permutationO
 use Rattle.theory.proofs.LevelRun.{run-length, run-reads, run-highest, next-top, countUp-run}
 use Rattle.theory.proofs.Calls.{calling}
 use Rattle.theory.proofs.Demand3.{demand3}
-use Rattle.ranking.specs.Answers.{ranked}
+use Rattle.ranking.specs.Answers.{rankAnswer}
 use Rattle.permutation.specs.declared.answers.Permutation.{Permutation}
 use Rattle.ranking.specs.declared.answers.Ranked.{Ranked}
 use Rattle.ranking.proofs.Values.{ranked-record}
-use Rattle.charge.specs.Answers.{reading}
+use Rattle.charge.specs.Answers.{readAnswer}
 use Rattle.theory.proofs.Refusal.{orElse-done, Readable, readable, ceiling-room}
 use Rattle.runs.specs.Steps.{pushCounts, countIn}
-use Rattle.runs.specs.LevelSteps.{levelsAfter, widest, largestRaise, ranLevels, LevelsOf}
+use Rattle.runs.specs.LevelSteps.{levelsAfter, widest, largestRaise, levelRunAnswer, LevelsOf}
 use Rattle.runs.specs.declared.answers.RanLevels.{RanLevels}
 use Rattle.runs.proofs.PushCounts.{Tallied, tallied, counts-none, counts-at}
 use Rattle.runs.proofs.Running.{run-of}
@@ -130,7 +130,7 @@ module _ (L : List ℕ) (k : ℕ) (g : callNumber k L ≡ 0) where
 
   -- ---- all k steps were done; p is read from the levels, and r is its rank
   module _ (levels counts : List ℕ) (wide large : ℕ) (v : RunningLevels L k levels counts wide large) (p : Permutation) (r : ℕ)
-      (stands : p ≡ reading levels .permutation) (ranks : r ≡ ranked p .rank) where
+      (stands : p ≡ readAnswer levels .permutation) (ranks : r ≡ rankAnswer p .rank) where
     still : Readable levels
     still = rw (v .levels-are)
         (let size = long k in
@@ -138,7 +138,7 @@ module _ (L : List ℕ) (k : ℕ) (g : callNumber k L ≡ 0) where
 
     is : r ≡ rank (length L) (permutationOf levels)
     is =
-        ranks ∙ ap (λ (q : Permutation). ranked q .rank) (stands ∙ reading-record still)
+        ranks ∙ ap (λ (q : Permutation). rankAnswer q .rank) (stands ∙ reading-record still)
         ∙ ap (λ (a : Ranked). a .rank) (ranked-record (length levels) (permutationOf levels) (still .few) (still .many) (permutationOf-permutation levels))
         ∙ ap (λ (n : ℕ). rank n (permutationOf levels)) (levels-long k levels counts wide large v)
 
@@ -151,8 +151,8 @@ module _ (L : List ℕ) (k : ℕ) (g : callNumber k L ≡ 0) where
     abbrev answer : RanLevels
     answer = record { number = 0; pushes = k; counts = counts; widest = wide; largest = large; rank = r }
 
-    pub ran-levels-left : answer ≡ ranLevels L k
-    unfolding ranLevels
+    pub ran-levels-left : answer ≡ levelRunAnswer L k
+    unfolding levelRunAnswer
     ran-levels-left = rw (g, calling k L .counted g .0, v .counted, v .widest-is, v .largest-is, is, counted-up)
 
     pub levels-of : LevelsOf L k levels answer
@@ -171,9 +171,9 @@ module _ (L : List ℕ) (k : ℕ) (g : callNumber k L ≡ 0) where
 
 -- a run that is refused
 pub ran-levels-refused : (L : List ℕ) (k number : ℕ) → number ≡ callNumber k L → (number ≡ 0 → ⊥)
-    → (_≡_ {A = RanLevels} (record { number = number; pushes = 0; counts = replicate 20 0; widest = 0; largest = 0; rank = 0 }) (ranLevels L k))
+    → (_≡_ {A = RanLevels} (record { number = number; pushes = 0; counts = replicate 20 0; widest = 0; largest = 0; rank = 0 }) (levelRunAnswer L k))
     × (L ≡ callLevels k L)
-unfolding ranLevels
+unfolding levelRunAnswer
 ran-levels-refused L k number e h =
     let u = calling k L .unchanged (λ z. h (e ∙ z)) in
     (rw (u .0, ← e, ne-eqb number 0 h), sym (u .1))

@@ -13,18 +13,18 @@ use Rattle.theory.proofs.Sorting.{permutationOf-permutation}
 use Rattle.theory.proofs.Extremes.{level≤highest, lowest≤level}
 use Rattle.theory.proofs.Reading.{pushed-length, pushed-level}
 use Rattle.permutation.specs.Records.{recordOf}
-use Rattle.permutation.specs.Answers.{placed}
+use Rattle.permutation.specs.Answers.{successorAnswer}
 use Rattle.permutation.specs.declared.answers.Permutation.{Permutation}
 use Rattle.permutation.specs.declared.answers.Placed.{Placed}
 use Rattle.permutation.proofs.Answering.{placed-record}
-use Rattle.charge.specs.Answers.{reading, placeNumber, placeLevels}
+use Rattle.charge.specs.Answers.{readAnswer, placeNumber, placeLevels}
 use Rattle.theory.proofs.Refusal.{given-done, orElse-done, Readable, read-done, readable, ceiling-room}
 use Rattle.charge.proofs.Numbers.{place-done}
 use Rattle.charge.proofs.Pushing.{PlacedCell, placed-cell}
 
 -- the permutation that is read from levels which have one
-pub reading-record : {L : List ℕ} → Readable L → reading L .permutation ≡ recordOf (permutationOf L)
-unfolding reading
+pub reading-record : {L : List ℕ} → Readable L → readAnswer L .permutation ≡ recordOf (permutationOf L)
+unfolding readAnswer
 reading-record r = rw (read-done r)
 
 -- a step on L that pushed this cell and left these levels
@@ -46,13 +46,13 @@ module _ (L : List ℕ) (g : callNumber 1 L ≡ 0) where
   faultless = readable (past .0)
 
   -- p is what was read, and this place is what its successor answers
-  module _ (p : Permutation) (place : ℕ) (stands : p ≡ reading L .permutation) (asked : place ≡ placed p .place) where
+  module _ (p : Permutation) (place : ℕ) (stands : p ≡ readAnswer L .permutation) (asked : place ≡ successorAnswer p .place) where
     standing : p ≡ recordOf (permutationOf L)
     standing = stands ∙ reading-record faultless
 
     place-is : place ≡ successor (length L) (permutationOf L)
     place-is =
-        asked ∙ ap (λ (q : Permutation). placed q .place) standing
+        asked ∙ ap (λ (q : Permutation). successorAnswer q .place) standing
         ∙ ap (λ (a : Placed). a .place) (placed-record (length L) (permutationOf L) (faultless .few) (faultless .many) (permutationOf-permutation L))
 
     pub place-bounds : (2 ≤ place) × (place ≤ length L) × (place ≤ 20)

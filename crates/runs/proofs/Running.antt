@@ -14,9 +14,9 @@ use Rattle.theory.specs.Demand3.{Demand3}
 use Rattle.theory.proofs.Padding.{row-at}
 use Rattle.theory.proofs.Stepping.{stepping}
 use Rattle.theory.proofs.Demand3.{demand3}
-use Rattle.permutation.specs.Records.{listOf, recordOf, faultOf}
-use Rattle.permutation.specs.Answers.{placed, pushed}
-use Rattle.ranking.specs.Answers.{ranked}
+use Rattle.permutation.specs.Records.{listOf, recordOf, recordNumber}
+use Rattle.permutation.specs.Answers.{successorAnswer, pushAnswer}
+use Rattle.ranking.specs.Answers.{rankAnswer}
 use Rattle.permutation.specs.declared.answers.Permutation.{Permutation}
 use Rattle.permutation.specs.declared.answers.Permuted.{Permuted}
 use Rattle.permutation.specs.declared.answers.Placed.{Placed}
@@ -24,7 +24,7 @@ use Rattle.ranking.specs.declared.answers.Ranked.{Ranked}
 use Rattle.permutation.proofs.Records.{Sound}
 use Rattle.permutation.proofs.Answering.{placed-record, pushed-record, list-record}
 use Rattle.ranking.proofs.Values.{ranked-record}
-use Rattle.runs.specs.Steps.{pushCounts, ran, countIn, RunOf}
+use Rattle.runs.specs.Steps.{pushCounts, runAnswer, countIn, RunOf}
 use Rattle.runs.specs.declared.answers.Ran.{Ran}
 use Rattle.runs.proofs.PushCounts.{Tallied, tallied, counts-none, counts-at}
 
@@ -68,22 +68,22 @@ module _ (p : Permutation) (s : Sound p) where
   running-none = record { at = s .is; counted = counts-none (p .n) (s .few) (s .many) (listOf p) }
 
   module _ (done : ℕ) (current : Permutation) (counts : List ℕ) (v : Running p done current counts) where
-    next : placed current ≡ record { number = 0; place = successor (p .n) (after done) }
-    next = ap placed (v .at) ∙ placed-record (p .n) (after done) (s .few) (s .many) (orders done)
+    next : successorAnswer current ≡ record { number = 0; place = successor (p .n) (after done) }
+    next = ap successorAnswer (v .at) ∙ placed-record (p .n) (after done) (s .few) (s .many) (orders done)
 
-    module _ (place : ℕ) (q : place ≡ placed current .place) where
+    module _ (place : ℕ) (q : place ≡ successorAnswer current .place) where
       next-place : place ≡ successor (p .n) (after done)
       next-place = q ∙ ap (λ (a : Placed). a .place) next
 
       -- the record after one more step
-      next-record : pushed current place .permutation ≡ recordOf (after (suc done))
+      next-record : pushAnswer current place .permutation ≡ recordOf (after (suc done))
       unfolding steps step
       next-record =
           let b = stepping (p .n) (s .few) .place (after done) in
-          ap₂ (λ (c : Permutation) (i : ℕ). pushed c i .permutation) (v .at) next-place
+          ap₂ (λ (c : Permutation) (i : ℕ). pushAnswer c i .permutation) (v .at) next-place
           ∙ ap (λ (a : Permuted). a .permutation) (pushed-record (p .n) (after done) (s .few) (s .many) (orders done) _ (b .0) (b .1))
 
-      module _ (current′ : Permutation) (e : current′ ≡ pushed current place .permutation) where
+      module _ (current′ : Permutation) (e : current′ ≡ pushAnswer current place .permutation) where
         at′ : current′ ≡ recordOf (after (suc done))
         at′ = e ∙ next-record
 
@@ -99,17 +99,17 @@ module _ (p : Permutation) (s : Sound p) where
           running-more = rw (add-one done) (record { at = at′; counted = step-tallied .counted })
 
   -- ---- all k steps were done, and the rank is that of the record
-  module _ (k : ℕ) (current : Permutation) (counts : List ℕ) (v : Running p k current counts) (r : ℕ) (is : r ≡ ranked current .rank) where
+  module _ (k : ℕ) (current : Permutation) (counts : List ℕ) (v : Running p k current counts) (r : ℕ) (is : r ≡ rankAnswer current .rank) where
     rank-is : r ≡ rank (p .n) (after k)
     rank-is =
-        is ∙ ap (λ (c : Permutation). ranked c .rank) (v .at)
+        is ∙ ap (λ (c : Permutation). rankAnswer c .rank) (v .at)
         ∙ ap (λ (a : Ranked). a .rank) (ranked-record (p .n) (after k) (s .few) (s .many) (orders k))
 
     end : listOf current ≡ after k
     end = ap listOf (v .at) ∙ list-record (p .n) (after k) (s .few) (s .many) (orders k)
 
-    pub ran-done : _≡_ {A = Ran} (record { number = 0; permutation = current; rank = r; counts = counts }) (ran p k)
-    unfolding ran
+    pub ran-done : _≡_ {A = Ran} (record { number = 0; permutation = current; rank = r; counts = counts }) (runAnswer p k)
+    unfolding runAnswer
     ran-done = rw (s .fault, v .at, rank-is, v .counted)
 
     pub run-record : RunOf (p .n) (listOf p) k (listOf current) r (countIn counts)
@@ -118,7 +118,7 @@ module _ (p : Permutation) (s : Sound p) where
         end (rank-is ∙ ap (rank (p .n)) (sym end)) (counts-at (p .n) (s .few) (s .many) (listOf p) k counts (v .counted))
 
 -- a record that is no permutation's
-pub ran-refused : (p : Permutation) (k number : ℕ) → number ≡ faultOf p → (number ≡ 0 → ⊥)
-    → _≡_ {A = Ran} (record { number = number; permutation = record { n = 0; cells = replicate 20 0 }; rank = 0; counts = replicate 20 0 }) (ran p k)
-unfolding ran
+pub ran-refused : (p : Permutation) (k number : ℕ) → number ≡ recordNumber p → (number ≡ 0 → ⊥)
+    → _≡_ {A = Ran} (record { number = number; permutation = record { n = 0; cells = replicate 20 0 }; rank = 0; counts = replicate 20 0 }) (runAnswer p k)
+unfolding runAnswer
 ran-refused p k number e h = rw (← e, ne-eqb number 0 h)

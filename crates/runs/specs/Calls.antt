@@ -23,8 +23,8 @@ abbrev pub callsNumber : List ℕ → List ℕ → ℕ
 callsNumber ks numbers = cond (leb (length ks) (length numbers)) done fit
 
 -- the pushes of all calls together
-unfoldable pub called : List ℕ → List ℕ → List ℕ → Pushes
-called L ks numbers = pushesOf (callsNumber ks numbers) (stepsDone ks L)
+unfoldable pub callsAnswer : List ℕ → List ℕ → List ℕ → Pushes
+callsAnswer L ks numbers = pushesOf (callsNumber ks numbers) (stepsDone ks L)
 
 -- "Each count-up call gets the list as the last one left it"
 unfoldable pub calledLevels : List ℕ → List ℕ → List ℕ → List ℕ

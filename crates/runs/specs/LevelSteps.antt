@@ -27,8 +27,8 @@ largestRaise zero L = 0
 largestRaise (suc k) L = max (largestRaise k L) (jump (top (steps (length L) (suc k) (permutationOf L))) (levelsAfter k L))
 
 -- refused as a count-up call by k is, with zeros beside the number
-unfoldable pub ranLevels : List ℕ → ℕ → RanLevels
-ranLevels L k = record {
+unfoldable pub levelRunAnswer : List ℕ → ℕ → RanLevels
+levelRunAnswer L k = record {
   number = callNumber k L;
   pushes = callPushes k L;
   counts = row (given (callNumber k L) (pushCounts (length L) k (permutationOf L)) []);

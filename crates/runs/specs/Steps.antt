@@ -8,7 +8,7 @@ use Rattle.theory.specs.Factorial.{factorial}
 use Rattle.theory.specs.Permutation.{IsPermutation, row}
 use Rattle.theory.specs.Rank.{rank}
 use Rattle.theory.specs.Run.{steps, pushCount}
-use Rattle.permutation.specs.Records.{listOf, recordOf, faultOf}
+use Rattle.permutation.specs.Records.{listOf, recordOf, recordNumber}
 use Rattle.theory.specs.Refusal.{given}
 use Rattle.permutation.specs.declared.answers.Permutation.{Permutation}
 use Rattle.runs.specs.declared.answers.Ran.{Ran}
@@ -18,12 +18,12 @@ abbrev pub pushCounts : ℕ → ℕ → List ℕ → List ℕ
 pushCounts n k xs = map (λ c. pushCount n c k xs) (names n)
 
 -- "The first record is any order, so no step is sent back." A record that is none is refused with its number: size or muddle, and zeros beside it
-unfoldable pub ran : Permutation → ℕ → Ran
-ran p k = record {
-  number = faultOf p;
-  permutation = recordOf (given (faultOf p) (steps (p .n) k (listOf p)) []);
-  rank = given (faultOf p) (rank (p .n) (steps (p .n) k (listOf p))) 0;
-  counts = row (given (faultOf p) (pushCounts (p .n) k (listOf p)) []);
+unfoldable pub runAnswer : Permutation → ℕ → Ran
+runAnswer p k = record {
+  number = recordNumber p;
+  permutation = recordOf (given (recordNumber p) (steps (p .n) k (listOf p)) []);
+  rank = given (recordNumber p) (rank (p .n) (steps (p .n) k (listOf p))) 0;
+  counts = row (given (recordNumber p) (pushCounts (p .n) k (listOf p)) []);
 }
 
 -- the count of cell c in a list of counts by name

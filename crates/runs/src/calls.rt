@@ -3,7 +3,7 @@ ghost use mathlib.Core.Path.{_≡_};
 ghost use Prim.Native.Nat.{_≤_};
 ghost use lib.ListN.{length};
 ghost use Rattle.theory.specs.Demand3.{Start};
-ghost use Rattle.runs.specs.Calls.{called, calledLevels, calledNumbers, CallsOf};
+ghost use Rattle.runs.specs.Calls.{callsAnswer, calledLevels, calledNumbers, CallsOf};
 use charge::answers::Pushes;
 use charge::answers::done_pushes;
 use charge::answers::no_pushes;
@@ -14,7 +14,7 @@ use permutation::reasons::FIT;
 // 0 when all calls were made, whatever numbers they got, and FIT where `numbers` has fewer places than there are calls: then nothing is judged or altered.
 // `demand3` speaks of levels: any start of 2 to 20 levels without a tie, any list of calls.
 pub fn run_calls(levels: &mut [u16], counts: &[u32], numbers: &mut [u8]) -> Pushes
-    ensures answer { λ r. ⌜ r ≡ called (now (levels .entry)) (now (counts .entry)) (now (numbers .entry)) ⌝ }
+    ensures answer { λ r. ⌜ r ≡ callsAnswer (now (levels .entry)) (now (counts .entry)) (now (numbers .entry)) ⌝ }
     ensures levels_left { λ _. ⌜ now (levels .exit) ≡ calledLevels (now (levels .entry)) (now (counts .entry)) (now (numbers .entry)) ⌝ }
     ensures numbers_left { λ _. ⌜ now (numbers .exit) ≡ calledNumbers (now (levels .entry)) (now (counts .entry)) (now (numbers .entry)) ⌝ }
     ensures demand3 { λ r. ⌜ (r .number ≡ 0 → 2 ≤ length (now (levels .entry)) → Start (length (now (levels .entry))) (now (levels .entry))

@@ -3,7 +3,7 @@ ghost use mathlib.Core.Path.{_≡_};
 ghost use Prim.Native.Nat.{max};
 ghost use Rattle.theory.specs.Levels.{topLessBottom, pushLevel, jump};
 ghost use Rattle.theory.specs.CountUp.{nextCell, callNumber, callLevels};
-ghost use Rattle.runs.specs.LevelSteps.{ranLevels, LevelsOf};
+ghost use Rattle.runs.specs.LevelSteps.{levelRunAnswer, LevelsOf};
 use super::answers::RanLevels;
 use charge::judge::highest;
 use charge::judge::judge_call;
@@ -50,7 +50,7 @@ fn larger(a: u16, b: u16) -> u16
 
 // Refused exactly as count up by k is. `demand3` speaks of what is returned and left.
 pub fn run_levels(levels: &mut [u16], k: u32) -> RanLevels
-    ensures answer { λ r. ⌜ r ≡ ranLevels (now (levels .entry)) k ⌝ }
+    ensures answer { λ r. ⌜ r ≡ levelRunAnswer (now (levels .entry)) k ⌝ }
     ensures levels_left { λ _. ⌜ now (levels .exit) ≡ callLevels k (now (levels .entry)) ⌝ }
     ensures demand3 { λ r. ⌜ (r .number ≡ 0 → LevelsOf (now (levels .entry)) k (now (levels .exit)) r) ⌝ }
 {

@@ -1,7 +1,7 @@
 // k steps: each asks the successor and pushes at the place given. The following step gets the record which that push returned.
 ghost use mathlib.Core.Path.{_≡_};
 ghost use Rattle.permutation.specs.Records.{listOf};
-ghost use Rattle.runs.specs.Steps.{ran, countIn, RunOf};
+ghost use Rattle.runs.specs.Steps.{runAnswer, countIn, RunOf};
 use super::answers::Ran;
 use permutation::answers::Permutation;
 use permutation::cell::wide;
@@ -11,7 +11,7 @@ use ranking::rank::rank;
 
 // The rank is worked out from the record that the run ends with. `demand3` speaks of permutations: the run from any of them, for every k.
 pub fn run_steps(permutation: Permutation, k: u64) -> Ran
-    ensures answer { λ r. ⌜ r ≡ ran permutation k ⌝ }
+    ensures answer { λ r. ⌜ r ≡ runAnswer permutation k ⌝ }
     ensures demand3 { λ r. ⌜ (r .number ≡ 0 → RunOf (permutation .n) (listOf permutation) k (listOf (r .permutation)) (r .rank) (countIn (r .counts))) ⌝ }
 {
     // a run of no steps judges its record too

@@ -3,8 +3,8 @@ use mathlib.Core.Path.{_≡_, refl, ap, sym, _∙_}
 use Prim.Native.Nat.{ℕ}
 use native.Mathlib.Omega.{arith}
 use Rattle.sheet.specs.Bytes.{Fault, missized, tied, ill-formed, numberOf, Got, fault, got}
-use Rattle.sheet.specs.Held.{sheetRead}
-use Rattle.sheet.specs.Parts.{groupRead, entryRead}
+use Rattle.sheet.specs.Held.{sheetAnswer}
+use Rattle.sheet.specs.Parts.{groupAnswer, entryAnswer}
 use Rattle.sheet.specs.declared.held.SheetRead.{SheetRead}
 use Rattle.sheet.specs.declared.groups.GroupRead.{GroupRead}
 use Rattle.sheet.specs.declared.commands.EntryRead.{EntryRead}
@@ -20,16 +20,16 @@ pub record Numbered {A R : Type 0} (number : R → ℕ) (answer : Got A → R) :
   pub bad : (f : Fault) → number (answer (fault f)) ≡ numberOf f
   pub good : (x : A) (end : ℕ) → number (answer (got x end)) ≡ 0
 
-pub group-numbered : Numbered (λ (r : GroupRead). r .number) groupRead
-unfolding groupRead
+pub group-numbered : Numbered (λ (r : GroupRead). r .number) groupAnswer
+unfolding groupAnswer
 group-numbered = record { bad = λ f. refl; good = λ L end. refl }
 
-pub entry-numbered : Numbered (λ (r : EntryRead). r .number) entryRead
-unfolding entryRead
+pub entry-numbered : Numbered (λ (r : EntryRead). r .number) entryAnswer
+unfolding entryAnswer
 entry-numbered = record { bad = λ f. refl; good = λ e end. refl }
 
-pub sheet-numbered : Numbered (λ (r : SheetRead). r .number) sheetRead
-unfolding sheetRead
+pub sheet-numbered : Numbered (λ (r : SheetRead). r .number) sheetAnswer
+unfolding sheetAnswer
 sheet-numbered = record { bad = λ f. refl; good = λ c end. refl }
 
 module _ {A R : Type 0} {number : R → ℕ} {answer : Got A → R} (n : Numbered number answer) where

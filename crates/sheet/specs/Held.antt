@@ -36,9 +36,9 @@ unfoldable pub heldOf : Contents → Sheet
 heldOf c = record { groups = groupsOf (c .groups); count = length (c .entries); entries = padded 1000 noEntry (c .entries) }
 
 -- what `read_sheet` answers: number 0 and the sheet, or the fault's number and zeros, "0 for every other number"
-unfoldable pub sheetRead : Got Contents → SheetRead
-sheetRead (fault f) = record { number = numberOf f; sheet = heldOf noContents }
-sheetRead (got c end) = record { number = 0; sheet = heldOf c }
+unfoldable pub sheetAnswer : Got Contents → SheetRead
+sheetAnswer (fault f) = record { number = numberOf f; sheet = heldOf noContents }
+sheetAnswer (got c end) = record { number = 0; sheet = heldOf c }
 
 -- ---- and back: what a sheet in memory says
 

@@ -8,13 +8,13 @@ use Rattle.sheet.specs.declared.held.Entry.{Entry}
 use Rattle.sheet.specs.declared.groups.GroupRead.{GroupRead}
 use Rattle.sheet.specs.declared.commands.EntryRead.{EntryRead}
 
-unfoldable pub groupRead : Got (List ℕ) → GroupRead
-groupRead (fault f) = record { number = numberOf f; group = noGroup; next = 0 }
-groupRead (got L end) = record { number = 0; group = groupOf L; next = end }
+unfoldable pub groupAnswer : Got (List ℕ) → GroupRead
+groupAnswer (fault f) = record { number = numberOf f; group = noGroup; next = 0 }
+groupAnswer (got L end) = record { number = 0; group = groupOf L; next = end }
 
-unfoldable pub entryRead : Got Entry → EntryRead
-entryRead (fault f) = record { number = numberOf f; entry = noEntry; next = 0 }
-entryRead (got e end) = record { number = 0; entry = e; next = end }
+unfoldable pub entryAnswer : Got Entry → EntryRead
+entryAnswer (fault f) = record { number = numberOf f; entry = noEntry; next = 0 }
+entryAnswer (got e end) = record { number = 0; entry = e; next = end }
 
 -- n numbers of k bytes each from a place on
 unfoldable pub numbers : ℕ → ℕ → List ℕ → ℕ → List ℕ

@@ -6,7 +6,7 @@ ghost use lib.ListN.{length};
 ghost use Rattle.theory.specs.Permutation.{row};
 ghost use Rattle.sheet.specs.Sheet as meaning;
 ghost use Rattle.sheet.specs.Held.{noEntry};
-ghost use Rattle.sheet.specs.Parts.{entryRead, numbers, Small};
+ghost use Rattle.sheet.specs.Parts.{entryAnswer, numbers, Small};
 use super::held::Action;
 use super::held::Command;
 use super::held::Entry;
@@ -52,7 +52,7 @@ fn untargeted(group: u8, action: Action, next: usize) -> EntryRead
 
 fn count_at(s: &[u8], at: usize, group: u8) -> EntryRead
     requires { ⌜ at ≤ length (now s) ⌝ }
-    ensures { λ r. ⌜ r ≡ entryRead (meaning.countAt group (now (s .entry)) at) ⌝ }
+    ensures { λ r. ⌜ r ≡ entryAnswer (meaning.countAt group (now (s .entry)) at) ⌝ }
 {
     if s.len() - at < 4 {
         return refuse();
@@ -78,7 +78,7 @@ fn names_at(s: &[u8], from: usize, n: usize) -> [u8; 20]
 // n is the number of the group's cells.
 fn rewrite_at(s: &[u8], at: usize, group: u8, n: usize) -> EntryRead
     requires { ⌜ (at ≤ length (now s)) × (n ≤ 20) ⌝ }
-    ensures { λ r. ⌜ r ≡ entryRead (meaning.rewriteAt group n (now (s .entry)) at) ⌝ }
+    ensures { λ r. ⌜ r ≡ entryAnswer (meaning.rewriteAt group n (now (s .entry)) at) ⌝ }
 {
     if s.len() - at < n {
         return refuse();
@@ -99,7 +99,7 @@ fn rewrite_at(s: &[u8], at: usize, group: u8, n: usize) -> EntryRead
 
 fn store_at(s: &[u8], at: usize, group: u8) -> EntryRead
     requires { ⌜ at ≤ length (now s) ⌝ }
-    ensures { λ r. ⌜ r ≡ entryRead (meaning.storeAt group (now (s .entry)) at) ⌝ }
+    ensures { λ r. ⌜ r ≡ entryAnswer (meaning.storeAt group (now (s .entry)) at) ⌝ }
 {
     if s.len() - at < 16 {
         return refuse();
@@ -112,7 +112,7 @@ fn store_at(s: &[u8], at: usize, group: u8) -> EntryRead
 // `sizes` has the number of cells of each group.
 pub fn read_command(s: &[u8], at: usize, sizes: &[usize]) -> EntryRead
     requires { ⌜ Small (now sizes) ⌝ }
-    ensures { λ r. ⌜ r ≡ entryRead (meaning.command (now (sizes .entry)) (now (s .entry)) at) ⌝ }
+    ensures { λ r. ⌜ r ≡ entryAnswer (meaning.command (now (sizes .entry)) (now (s .entry)) at) ⌝ }
 {
     if s.len() <= at {
         return refuse();

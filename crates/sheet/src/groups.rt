@@ -5,7 +5,7 @@ ghost use lib.ListN.{length};
 ghost use Rattle.theory.specs.Permutation.{row};
 ghost use Rattle.sheet.specs.Sheet as meaning;
 ghost use Rattle.sheet.specs.Held.{noGroup};
-ghost use Rattle.sheet.specs.Parts.{groupRead, numbers};
+ghost use Rattle.sheet.specs.Parts.{groupAnswer, numbers};
 use super::held::Group;
 use super::held::no_group;
 use super::little::little;
@@ -48,7 +48,7 @@ fn levels_at(s: &[u8], from: usize, n: usize) -> [u16; 20]
 }
 
 pub fn read_group(s: &[u8], at: usize) -> GroupRead
-    ensures { λ r. ⌜ r ≡ groupRead (meaning.group (now (s .entry)) at) ⌝ }
+    ensures { λ r. ⌜ r ≡ groupAnswer (meaning.group (now (s .entry)) at) ⌝ }
 {
     if s.len() <= at {
         return refuse(SHEET);

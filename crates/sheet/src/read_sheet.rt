@@ -5,7 +5,7 @@ ghost use Prim.Native.Nat.{_≤_};
 ghost use lib.ListN.{length};
 ghost use Rattle.theory.specs.Lists.{padded};
 ghost use Rattle.sheet.specs.Sheet as meaning;
-ghost use Rattle.sheet.specs.Held.{noContents, heldOf, sheetRead, groupsIn};
+ghost use Rattle.sheet.specs.Held.{noContents, heldOf, sheetAnswer, groupsIn};
 ghost use Rattle.sheet.specs.Standing.{GroupsHeld};
 use super::commands::read_command;
 use super::groups::read_group;
@@ -52,7 +52,7 @@ fn sizes_of(groups: Groups) -> [usize; 64]
 // The commands in a row, to the sheet's end.
 fn read_entries(s: &[u8], from: usize, count: usize, groups: Groups) -> SheetRead
     requires { ⌜ (count ≤ 1000) × GroupsHeld groups ⌝ }
-    ensures { λ r. ⌜ r ≡ sheetRead (meaning.commandRow (groupsIn groups) count (now (s .entry)) from) ⌝ }
+    ensures { λ r. ⌜ r ≡ sheetAnswer (meaning.commandRow (groupsIn groups) count (now (s .entry)) from) ⌝ }
 {
     let sizes = sizes_of(groups);
     let total = groups.count;
@@ -85,7 +85,7 @@ fn read_entries(s: &[u8], from: usize, count: usize, groups: Groups) -> SheetRea
 // The commands after the groups.
 fn read_commands(s: &[u8], at: usize, groups: Groups) -> SheetRead
     requires { ⌜ GroupsHeld groups ⌝ }
-    ensures { λ r. ⌜ r ≡ sheetRead (meaning.commands (groupsIn groups) (now (s .entry)) at) ⌝ }
+    ensures { λ r. ⌜ r ≡ sheetAnswer (meaning.commands (groupsIn groups) (now (s .entry)) at) ⌝ }
 {
     if s.len() <= at {
         return refuse(SHEET);
@@ -101,7 +101,7 @@ fn read_commands(s: &[u8], at: usize, groups: Groups) -> SheetRead
 }
 
 pub fn read_sheet(bytes: &[u8]) -> SheetRead
-    ensures { λ r. ⌜ r ≡ sheetRead (meaning.sheet (now (bytes .entry))) ⌝ }
+    ensures { λ r. ⌜ r ≡ sheetAnswer (meaning.sheet (now (bytes .entry))) ⌝ }
 {
     if bytes.len() == 0 {
         return refuse(SHEET);

@@ -19,7 +19,7 @@ use Rattle.theory.proofs.Factorials.{falling-quotient}
 use Rattle.theory.proofs.Names.{names-length}
 use Rattle.theory.proofs.Numbering.{over-length}
 use Rattle.theory.proofs.Prefixes.{names-distinct, prefix-over, prefixAt-prefix, coding}
-use Rattle.symbols.specs.Answers.{coded, prefixReason, prefixed}
+use Rattle.symbols.specs.Answers.{coded, codeNumber, prefixAnswer}
 use Rattle.symbols.specs.declared.answers.Prefixed.{Prefixed}
 use Rattle.symbols.proofs.Writing.{cleared}
 
@@ -32,21 +32,21 @@ abbrev none : ℕ → Prefixed
 none k = record { number = k; length = 0; cells = zeros }
 
 module _ (n m s : ℕ) where
-  pub prefix-refused : {number : ℕ} → number ≡ prefixReason n m s → (number ≡ 0 → ⊥) → none number ≡ prefixed n m s
-  unfolding prefixed
+  pub prefix-refused : {number : ℕ} → number ≡ codeNumber n m s → (number ≡ 0 → ⊥) → none number ≡ prefixAnswer n m s
+  unfolding prefixAnswer
   prefix-refused e ne = rw (← e, ne-eqb _ 0 ne)
 
-  pub size-reason : {number : ℕ} → number ≡ sizeOf n → (number ≡ 0 → ⊥) → number ≡ prefixReason n m s
-  unfolding prefixReason
+  pub size-reason : {number : ℕ} → number ≡ sizeOf n → (number ≡ 0 → ⊥) → number ≡ codeNumber n m s
+  unfolding codeNumber
   size-reason e ne = orElse-refused (sizeOf n) _ e ne
 
   module _ (sized : sizeOf n ≡ 0) where
-    pub too-large : factorial n < m → value ≡ prefixReason n m s
-    unfolding prefixReason
+    pub too-large : factorial n < m → value ≡ codeNumber n m s
+    unfolding codeNumber
     too-large h = rw (sized, lt-leb m (factorial n) h, and-false (leb 1 m))
 
-    pub no-symbol : m ≤ s → value ≡ prefixReason n m s
-    unfolding prefixReason
+    pub no-symbol : m ≤ s → value ≡ codeNumber n m s
+    unfolding codeNumber
     no-symbol h = rw (sized, le-ltb s m h, and-false)
 
 -- ---- the prefix of symbol s of m on n cells
@@ -59,13 +59,13 @@ pub record Coded (n m s : ℕ) : Type 0 where
 pub coded-right : {n m s : ℕ} → Coded n m s → coded n m ≡ true
 coded-right {n} {m} v = rw (le-leb 1 m (omega (arith, v .below)), le-leb m (factorial n) (v .most))
 
-pub prefix-done : {n m s : ℕ} → Coded n m s → prefixReason n m s ≡ done
-unfolding prefixReason
+pub prefix-done : {n m s : ℕ} → Coded n m s → codeNumber n m s ≡ done
+unfolding codeNumber
 prefix-done {n} {m} {s} v = rw (size-done n (v .few) (v .many), coded-right v, lt-ltb s m (v .below))
 
 -- it has a prefix where there is no reason against it
-pub in-range : {n m s : ℕ} → prefixReason n m s ≡ done → Coded n m s
-unfolding prefixReason
+pub in-range : {n m s : ℕ} → codeNumber n m s ≡ done → Coded n m s
+unfolding codeNumber
 in-range {n} {m} {s} h =
     let past = orElse-done (sizeOf n) (cond (coded n m && ltb s m) done value) h in
     let size = size-range n (past .0) in
@@ -103,6 +103,6 @@ module _ {n m s : ℕ} (v : Coded n m s) {p : ℕ} (e : p ≡ prefixLength n m) 
       led-cleared : cleared p led ≡ row (prefixAt n p s)
       led-cleared = rw (led-is, take-at (prefixAt n p s) (without (prefixAt n p s) (names n) ++ drop n named) p (is-prefix .long), is-prefix .long)
 
-      pub coded-done : {cells : List ℕ} → cells ≡ cleared p led → _≡_ {A = Prefixed} (record { number = 0; length = p; cells = cells }) (prefixed n m s)
-      unfolding prefixed symbolPrefix
+      pub coded-done : {cells : List ℕ} → cells ≡ cleared p led → _≡_ {A = Prefixed} (record { number = 0; length = p; cells = cells }) (prefixAnswer n m s)
+      unfolding prefixAnswer symbolPrefix
       coded-done is = rw (is, led-cleared, prefix-done v, e)

@@ -30,7 +30,7 @@ use Rattle.charge.proofs.Pushing.{placed-cell}
 use Rattle.rewriting.specs.Raising.{Pushable, raised}
 use Rattle.rewriting.proofs.Standing.{Standing, row-readable}
 use Rattle.symbols.specs.declared.answers.Prefixed.{Prefixed}
-use Rattle.symbols.specs.Answers.{prefixReason, prefixed, prefixOn, pushesFor, storeReason, stored, storeLevels, symbolReason, symbolRead, StoreOf}
+use Rattle.symbols.specs.Answers.{codeNumber, prefixAnswer, prefixOn, pushesFor, storeNumber, storeAnswer, storeLevels, symbolNumber, symbolAnswer, StoreOf}
 use Rattle.symbols.specs.AnyPrefix.{Storable, prefixPushes, prefixLevels, LedBy}
 use Rattle.symbols.specs.PassedOver.{unpassed}
 use Rattle.symbols.proofs.PassedOver.{Rule, rule}
@@ -50,7 +50,7 @@ module _ {L q : List ℕ} {p : ℕ} (r : Readable L) (prefix : IsPrefix (length 
   prefix-left = reading L (r .untied) .row-read (storePushes q (permutationOf L)) (stores .cells) ∙ stores .pushed
 
   prefix-read : LedBy q L (pushLevels (storePushes q (permutationOf L)) L)
-  unfolding charge.reading
+  unfolding charge.readAnswer
   prefix-read = record { read = rw (read-done prefix-readable, prefix-left, stores .reaches) }
 
 -- as it stands in its row
@@ -106,13 +106,13 @@ module _ {L : List ℕ} {m s : ℕ} (r : Readable L) (code : Coded (length L) m 
   symbol-stores = symbol-storing (length L) m s (permutationOf L) (code .most) (code .below) (permutationOf-permutation L)
 
   -- all tests but that of the ceiling are passed
-  reason-is : storeReason L m s ≡ ceilingOf L (pushesFor L (prefixOn L m s))
-  unfolding storeReason
+  reason-is : storeNumber L m s ≡ ceilingOf L (pushesFor L (prefixOn L m s))
+  unfolding storeNumber
   reason-is = rw (read-done r, prefix-done code)
 
   -- the symbol is read back
-  symbol-read : symbolRead (pushLevels (storePushes (prefixOn L m s) (permutationOf L)) L) m ≡ record { number = 0; symbol = s }
-  unfolding symbolRead symbolReason
+  symbol-read : symbolAnswer (pushLevels (storePushes (prefixOn L m s) (permutationOf L)) L) m ≡ record { number = 0; symbol = s }
+  unfolding symbolAnswer symbolNumber
   symbol-read =
       let prefix = symbol-stores .prefix in
       rw (
@@ -126,33 +126,33 @@ module _ {L : List ℕ} {m s : ℕ} (r : Readable L) (code : Coded (length L) m 
 
 -- whatever is asked, levels with a permutation keep one
 pub store-readable : {L : List ℕ} → Readable L → (m s : ℕ) → Readable (storeLevels L m s)
-unfolding storeLevels storeReason
+unfolding storeLevels storeNumber
 store-readable {L} r m s =
-    given-so Readable (storeReason L m s) _ L r
+    given-so Readable (storeNumber L m s) _ L r
     (λ z.
-    let finds = orElse-done (prefixReason (length L) m s) _ (orElse-done (readNumber L) _ z .1) .0 in
+    let finds = orElse-done (codeNumber (length L) m s) _ (orElse-done (readNumber L) _ z .1) .0 in
     prefix-readable r (symbol-stores r (in-range finds) .prefix))
 
 -- what the contract says of an answer, and of the levels that are left
 abbrev Answered : List ℕ → ℕ → ℕ → Pushes → List ℕ → Type 0
-Answered L m s a L′ = (a ≡ stored L m s) × ((L′ ≡ storeLevels L m s) × (a .number ≡ 0 → StoreOf L m s L′))
+Answered L m s a L′ = (a ≡ storeAnswer L m s) × ((L′ ≡ storeLevels L m s) × (a .number ≡ 0 → StoreOf L m s L′))
 
 module _ (L : List ℕ) (m s : ℕ) where
-  pub store-refused : {a : Pushes} {number : ℕ} → a ≡ noPushes number → number ≡ storeReason L m s → (number ≡ 0 → ⊥) → Answered L m s a L
-  unfolding stored storeLevels
+  pub store-refused : {a : Pushes} {number : ℕ} → a ≡ noPushes number → number ≡ storeNumber L m s → (number ≡ 0 → ⊥) → Answered L m s a L
+  unfolding storeAnswer storeLevels
   store-refused e is ne =
       let b = pushes-refused (pushesFor L (prefixOn L m s)) L (pushLevels (storePushes (prefixOn L m s) (permutationOf L)) L) e is ne in
       (b .0, (b .1, λ z. absurd (ne (sym (ap (λ (a : Pushes). a .number) e) ∙ z))))
 
   -- the number of the levels is that of the job
-  pub store-fault : {number : ℕ} → number ≡ readNumber L → (number ≡ 0 → ⊥) → number ≡ storeReason L m s
-  unfolding storeReason
+  pub store-fault : {number : ℕ} → number ≡ readNumber L → (number ≡ 0 → ⊥) → number ≡ storeNumber L m s
+  unfolding storeNumber
   store-fault e ne = orElse-refused (readNumber L) _ e ne
 
   -- and so is that of the prefix
-  pub store-value : {found : Prefixed} → Readable L → found ≡ prefixed (length L) m s → (found .number ≡ 0 → ⊥) → found .number ≡ storeReason L m s
-  unfolding storeReason prefixed
-  store-value r e ne = rw (read-done r) (orElse-refused (prefixReason (length L) m s) _ (ap (λ (f : Prefixed). f .number) e) ne)
+  pub store-value : {found : Prefixed} → Readable L → found ≡ prefixAnswer (length L) m s → (found .number ≡ 0 → ⊥) → found .number ≡ storeNumber L m s
+  unfolding storeNumber prefixAnswer
+  store-value r e ne = rw (read-done r) (orElse-refused (codeNumber (length L) m s) _ (ap (λ (f : Prefixed). f .number) e) ne)
 
 -- the job with its permutation read and its prefix found
 pub record Found (L : List ℕ) (m s : ℕ) (standing : Permuted) (found : Prefixed) : Type 0 where
@@ -162,11 +162,11 @@ pub record Found (L : List ℕ) (m s : ℕ) (standing : Permuted) (found : Prefi
   pub length-is : found .length ≡ prefixLength (length L) m
   pub prefix-is : found .cells ≡ row (prefixOn L m s)
 
-pub found-done : {L : List ℕ} {m s : ℕ} {standing : Permuted} {found : Prefixed} → Standing L standing → found ≡ prefixed (length L) m s
+pub found-done : {L : List ℕ} {m s : ℕ} {standing : Permuted} {found : Prefixed} → Standing L standing → found ≡ prefixAnswer (length L) m s
     → found .number ≡ 0 → Found L m s standing found
-unfolding prefixed
+unfolding prefixAnswer
 found-done {L} {m} {s} d e z =
-    let finds : prefixReason (length L) m s ≡ 0 = sym (ap (λ (f : Prefixed). f .number) e) ∙ z in
+    let finds : codeNumber (length L) m s ≡ 0 = sym (ap (λ (f : Prefixed). f .number) e) ∙ z in
     record {
       levels = d .levels;
       code = in-range finds;
@@ -197,19 +197,19 @@ module _ {L : List ℕ} {m s : ℕ} {standing : Permuted} {found : Prefixed} (f 
   -- what is answered of the prefix is the answer of the job
   pub found-stored : {a : Pushes} {L′ : List ℕ} → let q = take (found .length) (found .cells) in
       (a ≡ prefixPushes L q) × ((L′ ≡ prefixLevels L q) × (a .number ≡ 0 → LedBy q L L′)) → Answered L m s a L′
-  unfolding prefixPushes prefixLevels stored storeLevels
+  unfolding prefixPushes prefixLevels storeAnswer storeLevels
   found-stored {a} {L′} k =
       let reason = reason-is (f .levels) (f .code) in
       let left : L′ ≡ storeLevels L m s = k .1 .0 ∙ rw (front-is, reason) in
-      let answer : a ≡ stored L m s = k .0 ∙ rw (front-is, reason) in (
+      let answer : a ≡ storeAnswer L m s = k .0 ∙ rw (front-is, reason) in (
         answer,
         (
           left,
           λ z.
-              let none : storeReason L m s ≡ 0 = sym (ap (λ (b : Pushes). b .number) answer) ∙ z in
+              let none : storeNumber L m s ≡ 0 = sym (ap (λ (b : Pushes). b .number) answer) ∙ z in
               record {
                 read = rw front-is at (k .1 .1 z .read);
-                read-back = rw (left ∙ given-done (storeReason L m s) _ L none) (symbol-read (f .levels) (f .code));
+                read-back = rw (left ∙ given-done (storeNumber L m s) _ L none) (symbol-read (f .levels) (f .code));
               },
         ),
       )

@@ -12,7 +12,7 @@ use Rattle.theory.specs.Levels.{permutationOf, readNumber}
 use Rattle.theory.specs.Prefix.{prefixNumber, prefixLength, symbolOf}
 use Rattle.theory.proofs.Prefixes.{coding}
 use Rattle.theory.proofs.Sorting.{permutationOf-permutation, permutationOf-length}
-use Rattle.permutation.specs.Records.{faultOf}
+use Rattle.permutation.specs.Records.{recordNumber}
 use Rattle.permutation.specs.Spots.{checked, HasSpots}
 use Rattle.permutation.specs.declared.answers.Permutation.{Permutation}
 use Rattle.permutation.specs.declared.answers.Permuted.{Permuted}
@@ -21,7 +21,7 @@ use Rattle.permutation.proofs.Records.{sound, fault-record}
 use Rattle.permutation.proofs.Checking.{check-spots}
 use Rattle.theory.proofs.Refusal.{refused, orElse-refused, Readable, read-done}
 use Rattle.charge.proofs.Sorting.{row-long, row-first}
-use Rattle.symbols.specs.Answers.{symbolReason, symbolRead}
+use Rattle.symbols.specs.Answers.{symbolNumber, symbolAnswer}
 use Rattle.symbols.specs.PrefixDigits.{Numbered}
 use Rattle.symbols.specs.declared.answers.Symbol.{Symbol}
 use Rattle.rewriting.proofs.Standing.{Standing}
@@ -42,7 +42,7 @@ module _ {L : List ℕ} {r : Permuted} (s : Standing L r) where
   spots-found : {k : Checked} → k ≡ checked (r .permutation) → HasSpots (take (length L) (r .permutation .cells)) (length L) (k .spots)
   spots-found h =
       let size : r .permutation .n ≡ length L = ap (λ (p : Permutation). p .n) (s .is) ∙ permutationOf-length L in
-      let right : faultOf (r .permutation) ≡ 0 =
+      let right : recordNumber (r .permutation) ≡ 0 =
       rw (s .is) (fault-record (length L) (permutationOf L) (s .levels .few) (s .levels .many) (permutationOf-permutation L)) in
       rw size at (check-spots (r .permutation) h (sound (r .permutation) cells-long right))
 
@@ -65,36 +65,36 @@ module _ {L : List ℕ} {r : Permuted} (s : Standing L r) where
 
 -- ---- what is answered
 module _ (L : List ℕ) (m : ℕ) where
-  pub symbol-refused : {number : ℕ} → number ≡ symbolReason L m → (number ≡ 0 → ⊥)
-      → _≡_ {A = Symbol} (record { number = number; symbol = 0 }) (symbolRead L m)
-  unfolding symbolRead
+  pub symbol-refused : {number : ℕ} → number ≡ symbolNumber L m → (number ≡ 0 → ⊥)
+      → _≡_ {A = Symbol} (record { number = number; symbol = 0 }) (symbolAnswer L m)
+  unfolding symbolAnswer
   symbol-refused e ne = refused (λ number symbol. record { number = number; symbol = symbol }) (symbolOf (length L) m (permutationOf L)) 0 e ne
 
-  pub symbol-fault : {number : ℕ} → number ≡ readNumber L → (number ≡ 0 → ⊥) → number ≡ symbolReason L m
-  unfolding symbolReason
+  pub symbol-fault : {number : ℕ} → number ≡ readNumber L → (number ≡ 0 → ⊥) → number ≡ symbolNumber L m
+  unfolding symbolNumber
   symbol-fault e ne = orElse-refused (readNumber L) _ e ne
 
   module _ (r : Readable L) where
-    pub symbol-none : m < 1 → value ≡ symbolReason L m
-    unfolding symbolReason
+    pub symbol-none : m < 1 → value ≡ symbolNumber L m
+    unfolding symbolNumber
     symbol-none h = rw (read-done r, lt-leb 1 m h)
 
-    pub symbol-many : 1 ≤ m → factorial (length L) < m → value ≡ symbolReason L m
-    unfolding symbolReason
+    pub symbol-many : 1 ≤ m → factorial (length L) < m → value ≡ symbolNumber L m
+    unfolding symbolNumber
     symbol-many low h = rw (read-done r, le-leb 1 m low, lt-leb m (factorial (length L)) h)
 
     module _ (low : 1 ≤ m) (high : m ≤ factorial (length L)) where
-      pub symbol-idle : m ≤ symbolOf (length L) m (permutationOf L) → idle ≡ symbolReason L m
-      unfolding symbolReason
+      pub symbol-idle : m ≤ symbolOf (length L) m (permutationOf L) → idle ≡ symbolNumber L m
+      unfolding symbolNumber
       symbol-idle h =
           rw (read-done r, le-leb 1 m low, le-leb m (factorial (length L)) high, le-ltb (symbolOf (length L) m (permutationOf L)) m h)
 
-      symbol-led : symbolOf (length L) m (permutationOf L) < m → symbolReason L m ≡ 0
-      unfolding symbolReason
+      symbol-led : symbolOf (length L) m (permutationOf L) < m → symbolNumber L m ≡ 0
+      unfolding symbolNumber
       symbol-led h =
           rw (read-done r, le-leb 1 m low, le-leb m (factorial (length L)) high, lt-ltb (symbolOf (length L) m (permutationOf L)) m h)
 
       pub symbol-done : {symbol : ℕ} → symbol ≡ symbolOf (length L) m (permutationOf L) → symbol < m
-          → _≡_ {A = Symbol} (record { number = 0; symbol = symbol }) (symbolRead L m)
-      unfolding symbolRead
+          → _≡_ {A = Symbol} (record { number = 0; symbol = symbol }) (symbolAnswer L m)
+      unfolding symbolAnswer
       symbol-done e h = rw (symbol-led (omega arith), e)

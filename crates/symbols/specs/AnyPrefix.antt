@@ -11,7 +11,7 @@ use Rattle.theory.specs.CountUp.{ceilingOf}
 use Rattle.theory.specs.Prefix.{IsPrefix}
 use Rattle.theory.specs.Store.{storePushes}
 use Rattle.permutation.specs.Answers.{permuted}
-use Rattle.charge.specs.Answers.{pushesOf, reading}
+use Rattle.charge.specs.Answers.{pushesOf, readAnswer}
 use Rattle.charge.specs.declared.answers.Pushes.{Pushes}
 use Rattle.symbols.specs.Answers.{pushesFor}
 
@@ -31,4 +31,4 @@ prefixLevels L q = given (ceilingOf L (pushesFor L q)) (pushLevels (storePushes 
 
 -- q was stored on L, which left L′: the permutation then read is the prefix, and below it the other cells in their old sequence
 pub record LedBy (q L L′ : List ℕ) : Type 0 where
-  pub read : reading L′ ≡ permuted 0 (q ++ without q (permutationOf L))
+  pub read : readAnswer L′ ≡ permuted 0 (q ++ without q (permutationOf L))

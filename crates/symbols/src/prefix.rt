@@ -6,7 +6,7 @@ ghost use lib.ListN.{length, take, drop, replicate};
 ghost use Rattle.theory.specs.Factorial as factorials;
 ghost use Rattle.theory.specs.Lists.{names, without};
 ghost use Rattle.theory.specs.Prefix as meaning;
-ghost use Rattle.symbols.specs.Answers.{prefixed};
+ghost use Rattle.symbols.specs.Answers.{prefixAnswer};
 use super::answers::Prefixed;
 use super::prefix_length::falling;
 use super::prefix_length::prefix_length;
@@ -70,7 +70,7 @@ fn no_prefix(number: u8) -> Prefixed
 }
 
 pub fn prefix(n: usize, m: u64, symbol: u64) -> Prefixed
-    ensures { λ r. ⌜ r ≡ prefixed n m symbol ⌝ }
+    ensures { λ r. ⌜ r ≡ prefixAnswer n m symbol ⌝ }
 {
     let size = size_of(n);
     if size != 0 {

@@ -1,6 +1,6 @@
 // The symbol whose prefix leads the permutation of levels.
 ghost use mathlib.Core.Path.{_≡_};
-ghost use Rattle.symbols.specs.Answers.{symbolRead};
+ghost use Rattle.symbols.specs.Answers.{symbolAnswer};
 use super::answers::Symbol;
 use super::number::prefix_number;
 use super::prefix_length::prefix_length;
@@ -11,7 +11,7 @@ use permutation::validity::check;
 use ranking::factorials::factorial_table;
 
 pub fn read_symbol(levels: &[u16], m: u64) -> Symbol
-    ensures { λ r. ⌜ r ≡ symbolRead (now (levels .entry)) m ⌝ }
+    ensures { λ r. ⌜ r ≡ symbolAnswer (now (levels .entry)) m ⌝ }
 {
     let standing = read(levels);
     if standing.number != 0 {

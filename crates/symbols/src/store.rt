@@ -2,7 +2,7 @@
 ghost use mathlib.Core.Path.{_≡_};
 ghost use Prim.Native.Nat.{_≤_};
 ghost use lib.ListN.{length, take};
-ghost use Rattle.symbols.specs.Answers.{stored, storeLevels, StoreOf};
+ghost use Rattle.symbols.specs.Answers.{storeAnswer, storeLevels, StoreOf};
 ghost use Rattle.symbols.specs.PassedOver as passing;
 ghost use Rattle.symbols.specs.AnyPrefix.{Storable, prefixPushes, prefixLevels, LedBy};
 use super::prefix::prefix;
@@ -38,7 +38,7 @@ pub fn store_prefix(levels: &mut [u16], cells: &[u8; 20], prefix: &[u8; 20], p: 
 
 // `read_back`: what the levels then are read as, and that the symbol is read back.
 pub fn store(levels: &mut [u16], m: u64, symbol: u64) -> Pushes
-    ensures answer { λ r. ⌜ r ≡ stored (now (levels .entry)) m symbol ⌝ }
+    ensures answer { λ r. ⌜ r ≡ storeAnswer (now (levels .entry)) m symbol ⌝ }
     ensures levels_left { λ _. ⌜ now (levels .exit) ≡ storeLevels (now (levels .entry)) m symbol ⌝ }
     ensures read_back { λ r. ⌜ (r .number ≡ 0 → StoreOf (now (levels .entry)) m symbol (now (levels .exit))) ⌝ }
 {

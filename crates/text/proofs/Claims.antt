@@ -6,12 +6,12 @@ use Rattle.theory.specs.Levels.{insertByLevel, sortByLevel, permutationOf, push
 use Rattle.theory.specs.Successor.{successor, smaller}
 use Rattle.theory.specs.Permutation.{placeOf}
 use Rattle.theory.specs.Push.{push}
-use Rattle.theory.specs.Rewrite.{rewriteNumber, rewritePushes}
+use Rattle.theory.specs.Rewrite.{rewriteCount, rewritePushes}
 use Rattle.theory.specs.Rank.{digit, remaining, rank}
-use Rattle.permutation.specs.Records.{onceEach, allZero, faultOf}
-use Rattle.charge.specs.Answers.{counted}
-use Rattle.rewriting.specs.Answers.{rewriteFault, rewriteReason, rewritten, rewriteLevels}
-use Rattle.symbols.specs.Answers.{stored, storeLevels, storeReason, prefixReason}
+use Rattle.permutation.specs.Records.{onceEach, allZero, recordNumber}
+use Rattle.charge.specs.Answers.{callAnswer}
+use Rattle.rewriting.specs.Answers.{targetNumber, rewriteNumber, rewriteAnswer, rewriteLevels}
+use Rattle.symbols.specs.Answers.{storeAnswer, storeLevels, storeNumber, codeNumber}
 use Rattle.sheet.proofs.Claims.{sheets}
 use Rattle.text.specs.Text.{textOf, line, places, decimal, commandLine, commandLines, groupLine, groupLines}
 use Rattle.text.specs.Claims.{Texts}
@@ -20,7 +20,7 @@ use Rattle.work.specs.Work.{answers, groupsAfterAll}
 pub texts : Texts
 unfolding
     textOf line places decimal commandLine commandLines groupLine groupLines answers groupsAfterAll
-    counted callNumber callPushes callLevels countUp nextCell pushLevel insertByLevel sortByLevel permutationOf successor smaller placeOf
-    rewritten rewriteLevels rewriteReason rewriteFault rewriteNumber rewritePushes readNumber faultOf onceEach allZero push
-    stored storeLevels storeReason prefixReason digit remaining rank delta
+    callAnswer callNumber callPushes callLevels countUp nextCell pushLevel insertByLevel sortByLevel permutationOf successor smaller placeOf
+    rewriteAnswer rewriteLevels rewriteNumber targetNumber rewriteCount rewritePushes readNumber recordNumber onceEach allZero push
+    storeAnswer storeLevels storeNumber codeNumber digit remaining rank delta
 texts = record { example = ap textOf (sheets .example); decided = λ s. ap textOf (sheets .decided s) }

@@ -15,7 +15,7 @@ use Rattle.sheet.proofs.Answers.{answered-fault, answered-got}
 use Rattle.sheet.proofs.InMemory.{groups-back, held-count, held-levels}
 use Rattle.sheet.proofs.Claims.{sheets}
 use Rattle.work.specs.Work.{rankOf, answersOf, groupsLeft}
-use Rattle.work.specs.Answers.{noAnswer, outcomeOf, workedOf}
+use Rattle.work.specs.Answers.{noAnswer, outcomeOf, workAnswer}
 use Rattle.work.specs.declared.answers.Outcome.{Outcome}
 use Rattle.work.specs.declared.answers.Worked.{Worked}
 use Rattle.work.proofs.Working.{answers-length, groupsAfterAll-held}
@@ -59,9 +59,9 @@ printable-of s c end e =
       text = rw (e, take-at (answersOf c) (replicate (1000 - length (answersOf c)) noAnswer) (length (c .entries)) many, groups-back (groupsLeft c));
     }
 
-module _ (s : List ℕ) (r : Worked) (is : r ≡ workedOf (sheet s)) where
+module _ (s : List ℕ) (r : Worked) (is : r ≡ workAnswer (sheet s)) where
   pub printable : r .number ≡ 0 → Printable s (r .outcome)
-  unfolding workedOf
+  unfolding workAnswer
   printable z =
       let found = answered-got worked-numbered r (sheet s) is z in
       let same : r .outcome ≡ outcomeOf (found .0) = ap (λ (r : Worked). r .outcome) (found .3) in

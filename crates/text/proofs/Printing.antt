@@ -8,7 +8,7 @@ use lib.Seq.{take-length}
 use borrow.Author.Tests.{le-leb, lt-leb}
 use Rattle.io.specs.Counts.{Counts}
 use Rattle.io.proofs.Counting.{counts}
-use Rattle.text.specs.Answers.{printed, printedOn}
+use Rattle.text.specs.Answers.{printAnswer, printedOn}
 use Rattle.text.specs.Laying.{Puts}
 use Rattle.text.specs.declared.answers.Printed.{Printed}
 
@@ -21,8 +21,8 @@ module _ {page laid : List ℕ} {end : ℕ} {text : List ℕ} (p : Puts page 0 l
 
   module _ (buffer : List ℕ) where
     pub too-short : length buffer < end
-        → (_≡_ {A = Printed} (record { number = 2; length = 0 }) (printed text (length buffer))) × (buffer ≡ printedOn text buffer)
-    unfolding printed printedOn
+        → (_≡_ {A = Printed} (record { number = 2; length = 0 }) (printAnswer text (length buffer))) × (buffer ≡ printedOn text buffer)
+    unfolding printAnswer printedOn
     too-short h = let short = lt-leb (length text) (length buffer) (omega (arith, laid-length)) in (rw short, rw short)
 
     -- what was copied is the text, with what stood past it
@@ -31,8 +31,8 @@ module _ {page laid : List ℕ} {end : ℕ} {text : List ℕ} (p : Puts page 0 l
       is : after ≡ text ++ drop (length text) buffer
       is = e ∙ rw (p .front, take-length text)
 
-      pub long-enough : (_≡_ {A = Printed} (record { number = 0; length = end }) (printed text (length buffer))) × (after ≡ printedOn text buffer)
-      unfolding printed printedOn
+      pub long-enough : (_≡_ {A = Printed} (record { number = 0; length = end }) (printAnswer text (length buffer))) × (after ≡ printedOn text buffer)
+      unfolding printAnswer printedOn
       long-enough = let fits = le-leb (length text) (length buffer) (omega (arith, laid-length)) in (rw (fits, laid-length), is ∙ rw fits)
 
       pub counted : Counts end after

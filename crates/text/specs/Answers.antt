@@ -13,8 +13,8 @@ abbrev pub printNumber : List ℕ → ℕ → ℕ
 printNumber text size = cond (leb (length text) size) done fit
 
 -- the text's length; refused, "0 for every other number"
-unfoldable pub printed : List ℕ → ℕ → Printed
-printed text size = record { number = printNumber text size; length = given (printNumber text size) (length text) 0 }
+unfoldable pub printAnswer : List ℕ → ℕ → Printed
+printAnswer text size = record { number = printNumber text size; length = given (printNumber text size) (length text) 0 }
 
 -- the text at the buffer's start, and past it what stood there before; refused, "no change in any lent list"
 unfoldable pub printedOn : List ℕ → List ℕ → List ℕ

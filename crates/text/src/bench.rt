@@ -5,7 +5,7 @@ ghost use lib.ListN.{length};
 ghost use Rattle.io.specs.Counts.{Counts};
 ghost use Rattle.sheet.specs.Sheet.{sheet as contents};
 ghost use Rattle.text.specs.Text.{textOf};
-ghost use Rattle.text.specs.Answers.{printed, printedOn};
+ghost use Rattle.text.specs.Answers.{printAnswer, printedOn};
 ghost use Rattle.text.specs.Claims.{textBound};
 ghost use Rattle.text.specs.Laying.{Puts};
 use super::answers::Printed;
@@ -33,7 +33,7 @@ fn lay(sheet: &[u8], text: &mut [u8]) -> usize
 
 // `fits`: a buffer for the longest text is never too short. `counts`: `&text[..length]` can be lent.
 pub fn bench(sheet: &[u8], text: &mut [u8]) -> Printed
-    ensures answer { λ r. ⌜ r ≡ printed (textOf (contents (now (sheet .entry)))) (length (now (text .entry))) ⌝ }
+    ensures answer { λ r. ⌜ r ≡ printAnswer (textOf (contents (now (sheet .entry)))) (length (now (text .entry))) ⌝ }
     ensures text_left { λ _. ⌜ now (text .exit) ≡ printedOn (textOf (contents (now (sheet .entry)))) (now (text .entry)) ⌝ }
     ensures fits { λ r. ⌜ (textBound ≤ length (now (text .entry)) → r .number ≡ 0) ⌝ }
     ensures counts { λ r. ⌜ Counts (r .length) (now (text .exit)) ⌝ }

@@ -6,12 +6,12 @@ use Rattle.theory.specs.Push.{push}
 use Rattle.theory.specs.Successor.{smaller, successor, step}
 use Rattle.theory.specs.Rank.{digit, remaining, digits, rank}
 use Rattle.theory.specs.Unrank.{placeOfDigit, insertAt, unrank}
-use Rattle.theory.specs.Rewrite.{rewriteNumber, rewritePushes}
+use Rattle.theory.specs.Rewrite.{rewriteCount, rewritePushes}
 use Rattle.theory.specs.Prefix.{prefixes, prefixAt, prefixNumber, prefixLength}
 use Rattle.theory.specs.Readings.{Readings}
 
 pub readings : Readings
-unfolding placeOf push smaller successor step digit remaining digits rank placeOfDigit insertAt unrank rewriteNumber rewritePushes flatMap prefixes prefixAt prefixNumber prefixLength
+unfolding placeOf push smaller successor step digit remaining digits rank placeOfDigit insertAt unrank rewriteCount rewritePushes flatMap prefixes prefixAt prefixNumber prefixLength
 readings = record {
   two-cells = ((refl, refl), (refl, refl));
   three-cells = (

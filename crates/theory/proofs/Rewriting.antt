@@ -11,7 +11,7 @@ use lib.Seq.{take-suc, drop-cons, drop-length, drop-append-seam, length-take-le}
 use Rattle.theory.specs.Lists.{count, member, without}
 use Rattle.theory.specs.Permutation.{IsPermutation, top}
 use Rattle.theory.specs.Push.{pushes, Places, pushCells, cellPlaces}
-use Rattle.theory.specs.Rewrite.{inSequence, rewriteNumber, rewritePushes}
+use Rattle.theory.specs.Rewrite.{inSequence, rewriteCount, rewritePushes}
 use Rattle.theory.specs.Claims.{Rewriting}
 use Rattle.theory.proofs.Cases.{by-test, by-name, by-le}
 use Rattle.theory.proofs.Counts.{count-append, count-reverse}
@@ -23,31 +23,31 @@ use Rattle.theory.proofs.Splits.{drop-last}
 use Rattle.theory.proofs.Sublists.{sequence-sublist, rest-sublist, skip-sublist, sublist-sequence, without-sublist, sublist-one, without-others}
 use Rattle.theory.proofs.Rows.{upward-split, upward-places, bringAll, bringAll-split, bringAll-length, movedCells, movedCells-length, pushes-bringAll}
 
-rewrite-high : (xs t : List ℕ) → rewriteNumber xs t ≤ length t
-unfolding rewriteNumber
+rewrite-high : (xs t : List ℕ) → rewriteCount xs t ≤ length t
+unfolding rewriteCount
 rewrite-high xs t = least-bound (λ r. inSequence xs (drop r t)) (length t)
 
 -- the last cells of the target, after the first r, do stand in sequence
-rewrite-sublist : (xs t : List ℕ) → Sublistᴰ (drop (rewriteNumber xs t) t) xs
-unfolding rewriteNumber
+rewrite-sublist : (xs t : List ℕ) → Sublistᴰ (drop (rewriteCount xs t) t) xs
+unfolding rewriteCount
 rewrite-sublist xs t =
-    sequence-sublist xs (drop (rewriteNumber xs t) t)
+    sequence-sublist xs (drop (rewriteCount xs t) t)
     (least-holds (λ r. inSequence xs (drop r t)) (length t) (length t) (omega arith) (rw drop-length refl))
 
 -- and r is least with that
-rewrite-least : (xs t : List ℕ) (k : ℕ) → Sublistᴰ (drop k t) xs → rewriteNumber xs t ≤ k
-unfolding rewriteNumber
+rewrite-least : (xs t : List ℕ) (k : ℕ) → Sublistᴰ (drop k t) xs → rewriteCount xs t ≤ k
+unfolding rewriteCount
 rewrite-least xs t k h = least-min (λ r. inSequence xs (drop r t)) (length t) k (sublist-sequence xs (drop k t) h)
 
 -- ---- going up the permutation, cell by cell
 
-pub rewrite-none : (t : List ℕ) → rewriteNumber [] t ≡ length t
+pub rewrite-none : (t : List ℕ) → rewriteCount [] t ≡ length t
 rewrite-none t =
-    let r : ℕ = rewriteNumber [] t in
+    let r : ℕ = rewriteCount [] t in
     omega (arith, rewrite-high [] t, length-drop r t, ap length (Sublistᴰ·eq-nil (rewrite-sublist [] t)))
 
 -- above the cells v, which leave j of the target's, comes one more cell x
-module _ (x : ℕ) (v t : List ℕ) (j : ℕ) (is : j ≡ rewriteNumber v t) (pos : 0 < j) where
+module _ (x : ℕ) (v t : List ℕ) (j : ℕ) (is : j ≡ rewriteCount v t) (pos : 0 < j) where
   crossed : Sublistᴰ (drop j t) v
   crossed = rw is (rewrite-sublist v t)
 
@@ -57,21 +57,21 @@ module _ (x : ℕ) (v t : List ℕ) (j : ℕ) (is : j ≡ rewriteNumber v t) (po
       rw q at (drop-cons t (j - 1) 0 (omega (arith, rewrite-high v t)))
 
   -- x crosses off one at most
-  fewer-by-one : rewriteNumber (x ∷ v) t < j → j ≤ suc (rewriteNumber (x ∷ v) t)
+  fewer-by-one : rewriteCount (x ∷ v) t < j → j ≤ suc (rewriteCount (x ∷ v) t)
   fewer-by-one h =
-      let m : ℕ = rewriteNumber (x ∷ v) t in
+      let m : ℕ = rewriteCount (x ∷ v) t in
       let parts : drop m t ≡ getD t m 0 ∷ drop (suc m) t = drop-cons t m 0 (omega (arith, rewrite-high v t)) in
       omega (arith, rewrite-least v t (suc m) (rest-sublist (rw parts at (rewrite-sublist (x ∷ v) t))))
 
-  pub rewrite-crossed : x ≡ getD t (j - 1) 0 → rewriteNumber (x ∷ v) t ≡ j - 1
+  pub rewrite-crossed : x ≡ getD t (j - 1) 0 → rewriteCount (x ∷ v) t ≡ j - 1
   rewrite-crossed e =
       let more : Sublistᴰ (drop (j - 1) t) (x ∷ v) = rw last-left (Sublistᴰ·cons-cons (sym e) crossed) in
-      let high : rewriteNumber (x ∷ v) t ≤ j - 1 = rewrite-least (x ∷ v) t (j - 1) more in
+      let high : rewriteCount (x ∷ v) t ≤ j - 1 = rewrite-least (x ∷ v) t (j - 1) more in
       omega (arith, fewer-by-one (omega arith))
 
-  pub rewrite-passed : (x ≡ getD t (j - 1) 0 → ⊥) → rewriteNumber (x ∷ v) t ≡ j
+  pub rewrite-passed : (x ≡ getD t (j - 1) 0 → ⊥) → rewriteCount (x ∷ v) t ≡ j
   rewrite-passed ne =
-      let m : ℕ = rewriteNumber (x ∷ v) t in
+      let m : ℕ = rewriteCount (x ∷ v) t in
       let high : m ≤ j = rewrite-least (x ∷ v) t j (Sublistᴰ·cons crossed) in
       by-le j m
       (λ l. omega arith)
@@ -82,14 +82,14 @@ module _ (x : ℕ) (v t : List ℕ) (j : ℕ) (is : j ≡ rewriteNumber v t) (po
 
 -- ---- the pushes
 
-rewrite-many : (xs t : List ℕ) → length (rewritePushes xs t) ≡ rewriteNumber xs t
+rewrite-many : (xs t : List ℕ) → length (rewritePushes xs t) ≡ rewriteCount xs t
 unfolding rewritePushes
-rewrite-many xs t = length-reverse (take (rewriteNumber xs t) t) ∙ length-take-le (rewriteNumber xs t) t (rewrite-high xs t)
+rewrite-many xs t = length-reverse (take (rewriteCount xs t) t) ∙ length-take-le (rewriteCount xs t) t (rewrite-high xs t)
 
 rewrite-cells : (xs t : List ℕ) (c : ℕ) → member c (rewritePushes xs t) ≡ true → 1 ≤ count c t
 unfolding rewritePushes
 rewrite-cells xs t c m =
-    let r : ℕ = rewriteNumber xs t in
+    let r : ℕ = rewriteCount xs t in
     omega (
       arith,
       member-count c (reverse (take r t)) m,
@@ -107,7 +107,7 @@ top-sublist c (b ∷ s) (x ∷ xs) m q out k =
 
 module _ (xs t : List ℕ) (dx : Distinct xs) (dt : Distinct t) (same : Same xs t) where
   -- the first cell to push is not on top: else it would stand in sequence before the others
-  first-lower : (k : ℕ) → rewriteNumber xs t ≡ suc k → eqb (top xs) (getD t k 0) ≡ false
+  first-lower : (k : ℕ) → rewriteCount xs t ≡ suc k → eqb (top xs) (getD t k 0) ≡ false
   first-lower k e =
       let c : ℕ = getD t k 0 in
       let s : List ℕ = drop (suc k) t in
@@ -129,7 +129,7 @@ module _ (xs t : List ℕ) (dx : Distinct xs) (dt : Distinct t) (same : Same xs 
   rewrite-reaches : pushCells (rewritePushes xs t) xs ≡ t
   unfolding rewritePushes
   rewrite-reaches =
-      let r : ℕ = rewriteNumber xs t in
+      let r : ℕ = rewriteCount xs t in
       let a : List ℕ = take r t in
       let s : List ℕ = drop r t in
       let whole : a ++ s ≡ t = take-append-drop r t in
@@ -142,9 +142,9 @@ module _ (xs t : List ℕ) (dx : Distinct xs) (dt : Distinct t) (same : Same xs 
 
   rewrite-places : Places (length xs) (cellPlaces (rewritePushes xs t) xs)
   unfolding rewritePushes
-  rewrite-places = row (rewriteNumber xs t) refl
+  rewrite-places = row (rewriteCount xs t) refl
     where
-      row : (r : ℕ) → rewriteNumber xs t ≡ r → Places (length xs) (cellPlaces (reverse (take r t)) xs)
+      row : (r : ℕ) → rewriteCount xs t ≡ r → Places (length xs) (cellPlaces (reverse (take r t)) xs)
       row zero e = tt
       row (suc k) e =
           let parts : take (suc k) t ≡ take k t ++ getD t k 0 ∷ [] = take-suc t k 0 (omega (arith, rewrite-high xs t)) in
@@ -154,7 +154,7 @@ module _ (xs t : List ℕ) (dx : Distinct xs) (dt : Distinct t) (same : Same xs 
           (first-lower k e))
 
   -- the target's last cell alone always stands in sequence
-  rewrite-bound : 1 ≤ length t → rewriteNumber xs t ≤ length t - 1
+  rewrite-bound : 1 ≤ length t → rewriteCount xs t ≤ length t - 1
   rewrite-bound pos =
       let k : ℕ = length t - 1 in
       let c : ℕ = getD t k 0 in
@@ -162,7 +162,7 @@ module _ (xs t : List ℕ) (dx : Distinct xs) (dt : Distinct t) (same : Same xs 
       rewrite-least xs t k (rw one (sublist-one c xs (same c ∙ member-getD t k (omega arith))))
 
   -- after any row of pushes that gives the target, the cells below the pushed ones stand as they did
-  rewrite-fewest : (is : List ℕ) → Places (length xs) is → pushes is xs ≡ t → rewriteNumber xs t ≤ length is
+  rewrite-fewest : (is : List ℕ) → Places (length xs) is → pushes is xs ≡ t → rewriteCount xs t ≤ length is
   rewrite-fewest is p e =
       let cs : List ℕ = movedCells is xs in
       let u : ℕ = length (bringAll cs []) in

@@ -15,7 +15,7 @@ use Rattle.theory.specs.Rank.{remaining, rank, digits, digitValue}
 use Rattle.theory.specs.Unrank.{unrank}
 use Rattle.theory.specs.Levels.{level, highest, lowest, tied, permutationOf, ReadsAs, pushLevel, pushLevels, jump}
 use Rattle.theory.specs.CountUp.{countUp, callNumber, callPushes, callLevels}
-use Rattle.theory.specs.Rewrite.{rewriteNumber, rewritePushes}
+use Rattle.theory.specs.Rewrite.{rewriteCount, rewritePushes}
 use Rattle.theory.specs.Prefix.{IsPrefix, prefixes, prefixAt, prefixNumber, prefixLength, symbolPrefix, symbolOf}
 use Rattle.theory.specs.Store.{storePrefix, storeCount, storePushes}
 
@@ -98,13 +98,13 @@ pub record Reading (L : List ℕ) : Type 0 where
 -- rewriting a permutation of n cells to a target permutation
 pub record Rewriting (n : ℕ) (xs target : List ℕ) : Type 0 where
   pub reaches : pushCells (rewritePushes xs target) xs ≡ target
-  pub many : length (rewritePushes xs target) ≡ rewriteNumber xs target
+  pub many : length (rewritePushes xs target) ≡ rewriteCount xs target
   -- each of them is a push of a cell, at a place 2 to n
   pub cells : (c : ℕ) → member c (rewritePushes xs target) ≡ true → (1 ≤ c) × (c ≤ n)
   pub places : Places n (cellPlaces (rewritePushes xs target) xs)
-  pub at-most : rewriteNumber xs target ≤ n - 1
+  pub at-most : rewriteCount xs target ≤ n - 1
   -- no shorter row of pushes gives the target
-  pub fewest : (is : List ℕ) → Places n is → pushes is xs ≡ target → rewriteNumber xs target ≤ length is
+  pub fewest : (is : List ℕ) → Places n is → pushes is xs ≡ target → rewriteCount xs target ≤ length is
 
 -- the enumeration of the prefixes of length p of n cells
 pub record Numbering (n p : ℕ) : Type 0 where

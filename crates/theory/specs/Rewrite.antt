@@ -13,9 +13,9 @@ inSequence [] (c ∷ s) = false
 inSequence (x ∷ xs) (c ∷ s) = cond (eqb c x) (inSequence xs s) (inSequence xs (c ∷ s))
 
 -- "r is the smallest number for which the last n - r cells of the target stand in that same relative sequence now"
-unfoldable pub rewriteNumber : List ℕ → List ℕ → ℕ
-rewriteNumber xs target = least (λ r. inSequence xs (drop r target)) (length target)
+unfoldable pub rewriteCount : List ℕ → List ℕ → ℕ
+rewriteCount xs target = least (λ r. inSequence xs (drop r target)) (length target)
 
 -- "The target's cells r, r-1, ..., 1 are pushed."
 unfoldable pub rewritePushes : List ℕ → List ℕ → List ℕ
-rewritePushes xs target = reverse (take (rewriteNumber xs target) target)
+rewritePushes xs target = reverse (take (rewriteCount xs target) target)

@@ -4,14 +4,14 @@ ghost use mathlib.Core.Path.{_≡_};
 ghost use Prim.Native.Nat.{_≤_};
 ghost use lib.ListN.{length};
 ghost use Rattle.theory.specs.CountUp.{callLevels};
-ghost use Rattle.permutation.specs.Answers.{pushed, placed};
-ghost use Rattle.ranking.specs.Answers.{digited, ranked, unranked};
-ghost use Rattle.charge.specs.Answers.{reading, placePushes, placeLevels, counted};
-ghost use Rattle.rewriting.specs.Answers.{rewritten, rewriteLevels, rewriteList, RewriteOf};
-ghost use Rattle.symbols.specs.Answers.{stored, storeLevels, StoreOf, symbolRead};
+ghost use Rattle.permutation.specs.Answers.{pushAnswer, successorAnswer};
+ghost use Rattle.ranking.specs.Answers.{digitsAnswer, rankAnswer, unrankAnswer};
+ghost use Rattle.charge.specs.Answers.{readAnswer, placeAnswer, placeLevels, callAnswer};
+ghost use Rattle.rewriting.specs.Answers.{rewriteAnswer, rewriteLevels, rewriteList, RewriteOf};
+ghost use Rattle.symbols.specs.Answers.{storeAnswer, storeLevels, StoreOf, symbolAnswer};
 ghost use Rattle.sheet.specs.Sheet.{sheet as contents};
 ghost use Rattle.text.specs.Text.{textOf};
-ghost use Rattle.text.specs.Answers.{printed, printedOn};
+ghost use Rattle.text.specs.Answers.{printAnswer, printedOn};
 ghost use Rattle.text.specs.Claims.{textBound};
 use charge::answers::Pushes;
 use charge::count_up::count_up;
@@ -36,49 +36,49 @@ use text::bench::bench;
 
 #[no_mangle]
 pub extern "C" fn tm_push(permutation: Permutation, place: usize) -> Permuted
-    ensures { λ r. ⌜ r ≡ pushed permutation place ⌝ }
+    ensures { λ r. ⌜ r ≡ pushAnswer permutation place ⌝ }
 {
     push(permutation, place)
 }
 
 #[no_mangle]
 pub extern "C" fn tm_successor(permutation: Permutation) -> Placed
-    ensures { λ r. ⌜ r ≡ placed permutation ⌝ }
+    ensures { λ r. ⌜ r ≡ successorAnswer permutation ⌝ }
 {
     successor(permutation)
 }
 
 #[no_mangle]
 pub extern "C" fn tm_digits(permutation: Permutation) -> Digits
-    ensures { λ r. ⌜ r ≡ digited permutation ⌝ }
+    ensures { λ r. ⌜ r ≡ digitsAnswer permutation ⌝ }
 {
     digits(permutation)
 }
 
 #[no_mangle]
 pub extern "C" fn tm_rank(permutation: Permutation) -> Ranked
-    ensures { λ r. ⌜ r ≡ ranked permutation ⌝ }
+    ensures { λ r. ⌜ r ≡ rankAnswer permutation ⌝ }
 {
     rank(permutation)
 }
 
 #[no_mangle]
 pub extern "C" fn tm_unrank(n: usize, rank: u64) -> Permuted
-    ensures { λ r. ⌜ r ≡ unranked n rank ⌝ }
+    ensures { λ r. ⌜ r ≡ unrankAnswer n rank ⌝ }
 {
     unrank(n, rank)
 }
 
 #[no_mangle]
 pub extern "C" fn tm_read(levels: &[u16]) -> Permuted
-    ensures { λ r. ⌜ r ≡ reading (now (levels .entry)) ⌝ }
+    ensures { λ r. ⌜ r ≡ readAnswer (now (levels .entry)) ⌝ }
 {
     read(levels)
 }
 
 #[no_mangle]
 pub extern "C" fn tm_push_level(levels: &mut [u16], place: usize) -> Pushes
-    ensures answer { λ r. ⌜ r ≡ placePushes (now (levels .entry)) place ⌝ }
+    ensures answer { λ r. ⌜ r ≡ placeAnswer (now (levels .entry)) place ⌝ }
     ensures levels_left { λ _. ⌜ now (levels .exit) ≡ placeLevels (now (levels .entry)) place ⌝ }
 {
     push_level(levels, place)
@@ -86,7 +86,7 @@ pub extern "C" fn tm_push_level(levels: &mut [u16], place: usize) -> Pushes
 
 #[no_mangle]
 pub extern "C" fn tm_count_up(levels: &mut [u16], k: u32) -> Pushes
-    ensures answer { λ r. ⌜ r ≡ counted (now (levels .entry)) k ⌝ }
+    ensures answer { λ r. ⌜ r ≡ callAnswer (now (levels .entry)) k ⌝ }
     ensures levels_left { λ _. ⌜ now (levels .exit) ≡ callLevels k (now (levels .entry)) ⌝ }
 {
     count_up(levels, k)
@@ -94,7 +94,7 @@ pub extern "C" fn tm_count_up(levels: &mut [u16], k: u32) -> Pushes
 
 #[no_mangle]
 pub extern "C" fn tm_rewrite(levels: &mut [u16], target: Permutation, list: &mut [u8]) -> Pushes
-    ensures answer { λ r. ⌜ r ≡ rewritten (now (levels .entry)) target (length (now (list .entry))) ⌝ }
+    ensures answer { λ r. ⌜ r ≡ rewriteAnswer (now (levels .entry)) target (length (now (list .entry))) ⌝ }
     ensures levels_left { λ _. ⌜ now (levels .exit) ≡ rewriteLevels (now (levels .entry)) target (length (now (list .entry))) ⌝ }
     ensures list_left { λ _. ⌜ now (list .exit) ≡ rewriteList (now (levels .entry)) target (now (list .entry)) ⌝ }
     ensures reached { λ r. ⌜ (r .number ≡ 0 → RewriteOf (now (levels .entry)) target (now (levels .exit)) (r .pushes)) ⌝ }
@@ -104,7 +104,7 @@ pub extern "C" fn tm_rewrite(levels: &mut [u16], target: Permutation, list: &mut
 
 #[no_mangle]
 pub extern "C" fn tm_store(levels: &mut [u16], m: u64, symbol: u64) -> Pushes
-    ensures answer { λ r. ⌜ r ≡ stored (now (levels .entry)) m symbol ⌝ }
+    ensures answer { λ r. ⌜ r ≡ storeAnswer (now (levels .entry)) m symbol ⌝ }
     ensures levels_left { λ _. ⌜ now (levels .exit) ≡ storeLevels (now (levels .entry)) m symbol ⌝ }
     ensures read_back { λ r. ⌜ (r .number ≡ 0 → StoreOf (now (levels .entry)) m symbol (now (levels .exit))) ⌝ }
 {
@@ -113,14 +113,14 @@ pub extern "C" fn tm_store(levels: &mut [u16], m: u64, symbol: u64) -> Pushes
 
 #[no_mangle]
 pub extern "C" fn tm_read_symbol(levels: &[u16], m: u64) -> Symbol
-    ensures { λ r. ⌜ r ≡ symbolRead (now (levels .entry)) m ⌝ }
+    ensures { λ r. ⌜ r ≡ symbolAnswer (now (levels .entry)) m ⌝ }
 {
     read_symbol(levels, m)
 }
 
 #[no_mangle]
 pub extern "C" fn tm_bench(sheet: &[u8], text: &mut [u8]) -> Printed
-    ensures answer { λ r. ⌜ r ≡ printed (textOf (contents (now (sheet .entry)))) (length (now (text .entry))) ⌝ }
+    ensures answer { λ r. ⌜ r ≡ printAnswer (textOf (contents (now (sheet .entry)))) (length (now (text .entry))) ⌝ }
     ensures text_left { λ _. ⌜ now (text .exit) ≡ printedOn (textOf (contents (now (sheet .entry)))) (now (text .entry)) ⌝ }
     ensures fits { λ r. ⌜ (textBound ≤ length (now (text .entry)) → r .number ≡ 0) ⌝ }
 {

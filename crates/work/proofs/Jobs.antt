@@ -16,8 +16,8 @@ use Rattle.theory.proofs.CallLists.{call-length}
 use Rattle.permutation.specs.Records.{listOf}
 use Rattle.permutation.specs.declared.answers.Permutation.{Permutation}
 use Rattle.theory.proofs.Refusal.{given-so, Readable, readable, read-done}
-use Rattle.rewriting.specs.Answers.{rewriteReason, rewriteLevels}
-use Rattle.symbols.specs.Answers.{prefixOn, storeReason, storeLevels}
+use Rattle.rewriting.specs.Answers.{rewriteNumber, rewriteLevels}
+use Rattle.symbols.specs.Answers.{prefixOn, storeNumber, storeLevels}
 use Rattle.rewriting.proofs.Rewriting.{rewrite-readable}
 use Rattle.symbols.proofs.Storing.{store-readable}
 use Rattle.sheet.specs.declared.held.Action.{Action}
@@ -28,9 +28,9 @@ pub job-length : (a : Action) (target : Permutation) (L : List ℕ) → length (
 unfolding rewriteLevels storeLevels
 job-length (Count k) target L = call-length k L
 job-length Rewrite target L =
-    given-so (λ M. length M ≡ length L) (rewriteReason L target room) _ L refl (λ z. row-length (rewritePushes (permutationOf L) (listOf target)) L)
+    given-so (λ M. length M ≡ length L) (rewriteNumber L target room) _ L refl (λ z. row-length (rewritePushes (permutationOf L) (listOf target)) L)
 job-length (Store m s) target L =
-    given-so (λ M. length M ≡ length L) (storeReason L m s) _ L refl (λ z. row-length (storePushes (prefixOn L m s) (permutationOf L)) L)
+    given-so (λ M. length M ≡ length L) (storeNumber L m s) _ L refl (λ z. row-length (storePushes (prefixOn L m s) (permutationOf L)) L)
 
 count-readable : {L : List ℕ} → Readable L → (k : ℕ) → Readable (callLevels k L)
 unfolding callLevels

@@ -4,12 +4,12 @@ use mathlib.Core.List.{List}
 use Prim.Native.Nat.{ℕ}
 use Rattle.sheet.specs.Bytes.{got}
 use Rattle.sheet.specs.Sheet.{Contents, sheet}
-use Rattle.sheet.specs.Held.{noContents, heldOf, contentsOf, sheetRead}
+use Rattle.sheet.specs.Held.{noContents, heldOf, contentsOf, sheetAnswer}
 use Rattle.sheet.specs.declared.held.Sheet.{Sheet}
 use Rattle.sheet.specs.declared.held.SheetRead.{SheetRead}
 use Rattle.sheet.proofs.Answers.{Numbered, sheet-numbered, answered-fault, answered-got}
 use Rattle.sheet.proofs.Claims.{sheets}
-use Rattle.work.specs.Answers.{outcomeOf, workedOf}
+use Rattle.work.specs.Answers.{outcomeOf, workAnswer}
 use Rattle.sheet.specs.Standing.{SheetHeld}
 use Rattle.work.specs.declared.answers.Outcome.{Outcome}
 use Rattle.work.specs.declared.answers.Worked.{Worked}
@@ -22,8 +22,8 @@ pub record Accepted (s : List ℕ) (h : Sheet) : Type 0 where
   pub says : contentsOf h ≡ contents
   pub sheet-held : SheetHeld h
 
-pub accepted : (s : List ℕ) (r : SheetRead) → r ≡ sheetRead (sheet s) → r .number ≡ 0 → Accepted s (r .sheet)
-unfolding sheetRead
+pub accepted : (s : List ℕ) (r : SheetRead) → r ≡ sheetAnswer (sheet s) → r .number ≡ 0 → Accepted s (r .sheet)
+unfolding sheetAnswer
 accepted s r e z =
     let found = answered-got sheet-numbered r (sheet s) e z in
     let is : r .sheet ≡ heldOf (found .0) = ap (λ (r : SheetRead). r .sheet) (found .3) in
@@ -38,20 +38,20 @@ accepted s r e z =
 
 -- ---- what is answered, by the number of the sheet that was read
 
-module _ (s : List ℕ) (r : SheetRead) (is : r ≡ sheetRead (sheet s)) {o : Outcome} where
+module _ (s : List ℕ) (r : SheetRead) (is : r ≡ sheetAnswer (sheet s)) {o : Outcome} where
   pub worked-fault : (r .number ≡ 0 → ⊥) → o ≡ outcomeOf noContents
-      → _≡_ {A = Worked} (record { number = r .number; outcome = o }) (workedOf (sheet s))
-  unfolding workedOf
+      → _≡_ {A = Worked} (record { number = r .number; outcome = o }) (workAnswer (sheet s))
+  unfolding workAnswer
   worked-fault ne zeros =
       let bad = answered-fault sheet-numbered r (sheet s) is ne in
       rw (bad .1) (λ i. record { number = bad .2 i; outcome = zeros i })
 
-  pub worked-done : r .number ≡ 0 → o ≡ outcomeOf (contentsOf (r .sheet)) → _≡_ {A = Worked} (record { number = 0; outcome = o }) (workedOf (sheet s))
-  unfolding workedOf
+  pub worked-done : r .number ≡ 0 → o ≡ outcomeOf (contentsOf (r .sheet)) → _≡_ {A = Worked} (record { number = 0; outcome = o }) (workAnswer (sheet s))
+  unfolding workAnswer
   worked-done z done =
       let a = accepted s r is z in
       rw (a .reads) (ap (λ (o : Outcome). record { number = 0; outcome = o }) (done ∙ ap outcomeOf (a .says)))
 
-pub worked-numbered : Numbered (λ (r : Worked). r .number) workedOf
-unfolding workedOf
+pub worked-numbered : Numbered (λ (r : Worked). r .number) workAnswer
+unfolding workAnswer
 worked-numbered = record { bad = λ f. refl; good = λ c end. refl }

@@ -24,6 +24,6 @@ outcomeOf c = record {
 }
 
 -- number 0 and the outcome, or the fault's number and zeros: "Only a sheet without fault starts work."
-unfoldable pub workedOf : Got Contents → Worked
-workedOf (fault f) = record { number = numberOf f; outcome = outcomeOf noContents }
-workedOf (got c end) = record { number = 0; outcome = outcomeOf c }
+unfoldable pub workAnswer : Got Contents → Worked
+workAnswer (fault f) = record { number = numberOf f; outcome = outcomeOf noContents }
+workAnswer (got c end) = record { number = 0; outcome = outcomeOf c }

@@ -7,10 +7,10 @@ use Rattle.theory.specs.Levels.{permutationOf}
 use Rattle.theory.specs.InTurn.{leftBy, answersTo}
 use Rattle.theory.specs.CountUp.{callLevels}
 use Rattle.permutation.specs.declared.answers.Permutation.{Permutation}
-use Rattle.charge.specs.Answers.{counted}
+use Rattle.charge.specs.Answers.{callAnswer}
 use Rattle.charge.specs.declared.answers.Pushes.{Pushes}
-use Rattle.rewriting.specs.Answers.{rewritten, rewriteLevels}
-use Rattle.symbols.specs.Answers.{stored, storeLevels}
+use Rattle.rewriting.specs.Answers.{rewriteAnswer, rewriteLevels}
+use Rattle.symbols.specs.Answers.{storeAnswer, storeLevels}
 use Rattle.sheet.specs.Sheet.{Contents}
 use Rattle.sheet.specs.declared.held.Action.{Action}
 use Rattle.sheet.specs.declared.held.Action.the-variants.{Count, Rewrite, Store}
@@ -22,9 +22,9 @@ room = 20
 
 -- what a command of each kind answers on levels: the job of that name in `charge` or `rewriting`
 abbrev pub jobAnswer : Action → Permutation → List ℕ → Pushes
-jobAnswer (Count k) target L = counted L k
-jobAnswer Rewrite target L = rewritten L target room
-jobAnswer (Store m symbol) target L = stored L m symbol
+jobAnswer (Count k) target L = callAnswer L k
+jobAnswer Rewrite target L = rewriteAnswer L target room
+jobAnswer (Store m symbol) target L = storeAnswer L m symbol
 
 -- the levels that it leaves
 abbrev pub jobLevels : Action → Permutation → List ℕ → List ℕ

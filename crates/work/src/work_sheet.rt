@@ -1,14 +1,14 @@
 // Read a sheet and work through it.
 ghost use mathlib.Core.Path.{_≡_};
 ghost use Rattle.sheet.specs.Sheet as meaning;
-ghost use Rattle.work.specs.Answers.{workedOf};
+ghost use Rattle.work.specs.Answers.{workAnswer};
 use super::acting::no_outcome;
 use super::acting::work;
 use super::answers::Worked;
 use sheet::read_sheet::read_sheet;
 
 pub fn work_sheet(bytes: &[u8]) -> Worked
-    ensures { λ r. ⌜ r ≡ workedOf (meaning.sheet (now (bytes .entry))) ⌝ }
+    ensures { λ r. ⌜ r ≡ workAnswer (meaning.sheet (now (bytes .entry))) ⌝ }
 {
     let found = read_sheet(bytes);
     let number = found.number;

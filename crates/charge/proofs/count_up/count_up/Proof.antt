@@ -3,7 +3,7 @@ use mathlib.Core.Path.{refl, ap}
 use native.Mathlib.Omega.{arith}
 use borrow.Author.Needs.{needs}
 use Rattle.theory.specs.CountUp.{countUp, callLevels}
-use Rattle.charge.specs.Answers.{counted}
+use Rattle.charge.specs.Answers.{callAnswer}
 use Rattle.charge.specs.Counting.{callJudged}
 use Rattle.charge.specs.declared.judge.Call.{Call}
 use Rattle.charge.proofs.Sorting.{sorted-row}
@@ -21,7 +21,7 @@ same-length : tie.Need-same-length
 same-length c = search needs
 
 returns : tie.Need-returns
-unfolding callJudged counted callLevels
+unfolding callJudged callAnswer callLevels
 returns c =
     let at = c .before .before in
     let a = at .before .before .before .args in
@@ -50,7 +50,7 @@ same-length-2 : tie.Need-same-length-2
 same-length-2 c = search needs
 
 returns-2 : tie.Need-returns-2
-unfolding counted callLevels
+unfolding callAnswer callLevels
 returns-2 c =
     let past = c .before .before .before .before .before .before .before .before .before in
     let a = past .before .before .before .before .args in

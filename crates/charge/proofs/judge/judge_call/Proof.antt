@@ -13,7 +13,7 @@ use Rattle.charge.proofs.judge.judge_call.Tie as tie
 
 -- past the first test the levels have a permutation
 faultless : (c : tie.Else1) → readNumber (c .before .before .before .args .levels .now) ≡ 0
-faultless c = sym (c .before .fault .ensures) ∙ c .if1 .left
+faultless c = sym (c .before .read-number .ensures) ∙ c .if1 .left
 
 -- the answer by its number
 abbrev call : ℕ → ℕ → Call
@@ -24,7 +24,7 @@ unfolding callJudged callNumber
 returns c =
     let a = c .before .before .before .args in
     let L = a .levels .now in
-    refused call (highest L) 0 (orElse-refused (readNumber L) (ceilingOf L (a .k)) (c .before .fault .ensures) (c .if1 .taken)) (c .if1 .taken)
+    refused call (highest L) 0 (orElse-refused (readNumber L) (ceilingOf L (a .k)) (c .before .read-number .ensures) (c .if1 .taken)) (c .if1 .taken)
 
 cast-if2 : tie.Need-cast-if2
 cast-if2 c = search needs

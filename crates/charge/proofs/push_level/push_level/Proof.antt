@@ -8,7 +8,7 @@ use lib.ListN.{length}
 use Rattle.theory.specs.Permutation.{cellAt}
 use Rattle.theory.specs.Levels.{permutationOf, pushLevel}
 use Rattle.theory.proofs.Refusal.{Readable, readable}
-use Rattle.charge.specs.Answers.{noPushes, placeNumber, placePushes, placeLevels}
+use Rattle.charge.specs.Answers.{noPushes, placeNumber, placeAnswer, placeLevels}
 use Rattle.charge.specs.declared.answers.Pushes.{Pushes}
 use Rattle.charge.proofs.Sorting.{sorted-row}
 use Rattle.charge.proofs.Numbers.{pushes-refused, pushes-done, place-fault, place-low, place-high, place-ceiling, place-done}
@@ -18,7 +18,7 @@ use Rattle.charge.proofs.push_level.push_level.Tie as tie
 
 -- past the first test the levels have a permutation, and past the third there is the place
 faultless : (c : tie.Else1) → Readable (c .before .before .before .before .args .levels .now)
-faultless c = readable (sym (c .before .fault .ensures) ∙ c .if1 .left)
+faultless c = readable (sym (c .before .read-number .ensures) ∙ c .if1 .left)
 
 placed : (c : tie.Else3) → let a = c .before .before .before .before .before .before .args in (2 ≤ a .place) × (a .place ≤ length (a .levels .now))
 placed c = (c .before .if2 .left, c .if3 .left)
@@ -35,8 +35,8 @@ cell c =
 
 -- a refusal
 refuses : (L : List ℕ) (i : ℕ) {a : Pushes} {number : ℕ} → a ≡ noPushes number → number ≡ placeNumber L i → (number ≡ 0 → ⊥)
-    → (a ≡ placePushes L i) × (L ≡ placeLevels L i)
-unfolding placePushes placeLevels
+    → (a ≡ placeAnswer L i) × (L ≡ placeLevels L i)
+unfolding placeAnswer placeLevels
 refuses L i = pushes-refused 1 L (pushLevel (cellAt i (permutationOf L)) L)
 
 same-length : tie.Need-same-length
@@ -45,7 +45,7 @@ same-length c = search needs
 returns : tie.Need-returns
 returns c =
     let ne = c .before .if1 .taken in
-    refuses _ _ (c .no-pushes .ensures) (place-fault _ _ (c .before .before .fault .ensures) ne) ne
+    refuses _ _ (c .no-pushes .ensures) (place-fault _ _ (c .before .before .read-number .ensures) ne) ne
 
 same-length-2 : tie.Need-same-length-2
 same-length-2 c = search needs
@@ -95,7 +95,7 @@ same-length-5 : tie.Need-same-length-5
 same-length-5 c = search needs
 
 returns-5 : tie.Need-returns-5
-unfolding placePushes placeLevels
+unfolding placeAnswer placeLevels
 returns-5 c =
     let top = c .before .before .before .before .before .before .highest in
     let past = c .before .before .before .before .before .before .before .before in

@@ -3,7 +3,7 @@ use mathlib.Core.Path.{refl, sym, _∙_}
 use mathlib.Core.List.{[]}
 use Rattle.theory.specs.Levels.{permutationOf}
 use Rattle.permutation.proofs.Answering.{permutedWith}
-use Rattle.charge.specs.Answers.{reading}
+use Rattle.charge.specs.Answers.{readAnswer}
 use Rattle.charge.proofs.Sorting.{sorted-row}
 use Rattle.theory.proofs.Refusal.{refused, Readable, readable}
 use Rattle.charge.proofs.Numbers.{read-sorted}
@@ -11,13 +11,13 @@ use Rattle.charge.proofs.read.read.Statement.{statement}
 use Rattle.charge.proofs.read.read.Tie as tie
 
 faultless : (c : tie.Else1) → Readable (c .before .before .before .args .levels .now)
-faultless c = readable (sym (c .before .fault .ensures) ∙ c .if1 .left)
+faultless c = readable (sym (c .before .read-number .ensures) ∙ c .if1 .left)
 
 returns : tie.Need-returns
-unfolding reading
+unfolding readAnswer
 returns c =
     let at = c .before .before in
-    c .no-permutation .ensures ∙ refused permutedWith (permutationOf (at .before .before .args .levels .now)) [] (at .fault .ensures) (c .before .if1 .taken)
+    c .no-permutation .ensures ∙ refused permutedWith (permutationOf (at .before .before .args .levels .now)) [] (at .read-number .ensures) (c .before .if1 .taken)
 
 sort-cells-requires : tie.Need-sort-cells-requires
 sort-cells-requires c κs = (faultless (c .before) .many, refl)

@@ -1,6 +1,6 @@
 -- `permutation::successor::successor` meets its contract. Assumes nothing.
 use borrow.Author.Tests.{ne-eqb}
-use Rattle.permutation.specs.Answers.{placed}
+use Rattle.permutation.specs.Answers.{successorAnswer}
 use Rattle.permutation.proofs.Records.{Sound}
 use Rattle.permutation.proofs.Checking.{check-number, check-sound}
 use borrow.Author.Needs.{needs}
@@ -8,7 +8,7 @@ use Rattle.permutation.proofs.successor.successor.Statement.{statement}
 use Rattle.permutation.proofs.successor.successor.Tie as tie
 
 returns : tie.Need-returns
-unfolding placed
+unfolding successorAnswer
 returns c = rw (← check-number _ (c .before .check .ensures), ne-eqb _ _ (c .if1 .taken))
 
 -- past the test, the record is a permutation's
@@ -19,7 +19,7 @@ next-place-requires : tie.Need-next-place-requires
 next-place-requires c κs = (sound-now (c .before .before) .many, search needs)
 
 returns-2 : tie.Need-returns-2
-unfolding placed
+unfolding successorAnswer
 returns-2 c = rw (sound-now (c .before .before .before) .fault, c .next-place .ensures)
 
 pub successor-spec : {M : Type 1} → statement M

@@ -5,7 +5,7 @@ use Prim.Native.Nat.{ℕ}
 use native.Mathlib.Omega.{arith}
 use borrow.Author.Needs.{needs}
 use borrow.Author.Tests.{ne-eqb}
-use Rattle.ranking.specs.Answers.{digited}
+use Rattle.ranking.specs.Answers.{digitsAnswer}
 use Rattle.permutation.proofs.Records.{Sound}
 use Rattle.permutation.proofs.Checking.{check-number, check-sound, check-spots}
 use Rattle.ranking.proofs.BySpots.{spots-low, read-row}
@@ -13,7 +13,7 @@ use Rattle.ranking.proofs.digits.digits.Statement.{statement}
 use Rattle.ranking.proofs.digits.digits.Tie as tie
 
 returns : tie.Need-returns
-unfolding digited
+unfolding digitsAnswer
 returns c = rw (← check-number _ (c .before .check .ensures), ne-eqb _ _ (c .if1 .taken))
 
 -- past the test, the record is a permutation's
@@ -27,7 +27,7 @@ read-down-requires c κs =
     (s .many, omega arith, omega arith, refl, spots-low (s .many) (s .permutation) (check-spots _ (past .before .check .ensures) s))
 
 returns-2 : tie.Need-returns-2
-unfolding digited
+unfolding digitsAnswer
 returns-2 c =
     let past = c .before .before .before .before in
     let s = sound-now past in

@@ -9,14 +9,14 @@ use Rattle.theory.specs.Unrank.{unrank}
 use Rattle.theory.proofs.Refusal.{refused, answered, orElse-refused, size-range}
 use Rattle.permutation.specs.declared.answers.Permutation.{Permutation}
 use Rattle.permutation.proofs.Answering.{permutedWith}
-use Rattle.ranking.specs.Answers.{unrankNumber, unranked}
+use Rattle.ranking.specs.Answers.{unrankNumber, unrankAnswer}
 use Rattle.ranking.proofs.Table.{within-is}
 use Rattle.ranking.proofs.Unranking.{unrank-record}
 use Rattle.ranking.proofs.unrank.unrank.Statement.{statement}
 use Rattle.ranking.proofs.unrank.unrank.Tie as tie
 
 returns : tie.Need-returns
-unfolding unranked unrankNumber
+unfolding unrankAnswer unrankNumber
 returns c =
     let at = c .before .before in
     c .no-permutation .ensures
@@ -32,7 +32,7 @@ limit : (c : tie.After-factorial) → c .factorial .result ≡ factorial (c .bef
 limit c = c .factorial .ensures ∙ within-is (c .before .before .before .args .n) (size-range _ (sized (c .before)) .1)
 
 returns-2 : tie.Need-returns-2
-unfolding unranked unrankNumber
+unfolding unrankAnswer unrankNumber
 returns-2 c =
     let at = c .before .before in
     let a = at .before .before .before .args in
@@ -43,7 +43,7 @@ filled-row-requires : tie.Need-filled-row-requires
 filled-row-requires c κs = size-range _ (sized (c .before .before)) .1
 
 returns-3 : tie.Need-returns-3
-unfolding unranked unrankNumber
+unfolding unrankAnswer unrankNumber
 returns-3 c =
     let at = c .before .before in
     let a = at .before .before .before .args in

@@ -47,7 +47,7 @@ returns-6 : tie.Need-returns-6
 returns-6 c =
     let checked = c .before .before in
     let past = checked .before .before .before .before in
-    c .fault .ensures
+    c .read-number .ensures
     ∙ judge-levels _ _ _ (group (past .before .before)) (size past) (checked .before .before .if3 .left) (checked .before .if4 .left)
     (sym (check-number _ (checked .check .ensures)) ∙ c .before .if5 .left)
 

@@ -16,22 +16,22 @@ faultless : (c : tie.Else1)
 faultless c = judged (sym (c .before .judge .ensures) ∙ c .if1 .left)
 
 -- the same when the pushes are counted, and r is their number
-known : (c : tie.After-rewrite-number)
+known : (c : tie.After-rewrite-count)
     → let entry = c .before .before .before .before .before .before .before .before .before .before .before .before in
     Judged (entry .args .levels .now) (entry .args .target) (length (entry .args .list .now))
 known c = faultless (c .before .before .before .before .before .before .before)
 
 -- the target stands in a row of twenty
-long : (c : tie.After-rewrite-number)
+long : (c : tie.After-rewrite-count)
     → length (c .before .before .before .before .before .before .before .before .before .before .before .before .args .target .cells) ≡ 20
 long c = search needs
 
-number : (c : tie.After-rewrite-number)
+number : (c : tie.After-rewrite-count)
     → let entry = c .before .before .before .before .before .before .before .before .before .before .before .before in
-    c .rewrite-number .result ≡ pushesTo (entry .args .levels .now) (entry .args .target)
+    c .rewrite-count .result ≡ pushesTo (entry .args .levels .now) (entry .args .target)
 number c =
     let j = known c in
-    sorted-number j (sorted-row _ (j .readable .many) (c .before .before .before .before .sort-cells .ensures)) (c .rewrite-number .ensures)
+    sorted-number j (sorted-row _ (j .readable .many) (c .before .before .before .before .sort-cells .ensures)) (c .rewrite-count .ensures)
 
 same-length : tie.Need-same-length
 same-length c = search needs
@@ -42,8 +42,8 @@ returns c = rewrite-fault _ _ _ (c .no-pushes .ensures) (c .before .before .judg
 sort-cells-requires : tie.Need-sort-cells-requires
 sort-cells-requires c κs = (faultless (c .before .before) .readable .many, refl)
 
-rewrite-number-requires : tie.Need-rewrite-number-requires
-rewrite-number-requires c κs =
+rewrite-count-requires : tie.Need-rewrite-count-requires
+rewrite-count-requires c κs =
     let j = faultless (c .before .before .before .before .before .before) in
     let sorted = row-long _ (j .readable .many) (sorted-row _ (j .readable .many) (c .before .before .before .sort-cells .ensures)) in
     (omega (arith, j .same, j .readable .many), sorted, search needs)
@@ -92,7 +92,7 @@ rewrite-spec =
     same-length
     returns
     sort-cells-requires
-    rewrite-number-requires
+    rewrite-count-requires
     raise-requires
     list-pushes-requires
     same-length-2

@@ -4,20 +4,20 @@ use Prim.Native.Nat.{_-_, _≤_}
 use native.Mathlib.Omega.{arith}
 use borrow.Author.Needs.{needs}
 use lib.ListN.{length}
-use Rattle.permutation.specs.Answers.{placed}
+use Rattle.permutation.specs.Answers.{successorAnswer}
 use Rattle.permutation.specs.declared.answers.Permuted.{Permuted}
 use Rattle.permutation.specs.declared.answers.Placed.{Placed}
-use Rattle.charge.specs.Answers.{reading}
+use Rattle.charge.specs.Answers.{readAnswer}
 use Rattle.runs.proofs.OneStep.{place-bounds, cell-inside, StepDone, step-done}
 use Rattle.runs.proofs.level_steps.step_levels.Statement.{statement}
 use Rattle.runs.proofs.level_steps.step_levels.Tie as tie
 
 -- what was read, and the place that its successor answers
 read-is : (c : tie.After-successor)
-    → c .before .before .read .result .permutation ≡ reading (c .before .before .before .before .before .args .levels .now) .permutation
+    → c .before .before .read .result .permutation ≡ readAnswer (c .before .before .before .before .before .args .levels .now) .permutation
 read-is c = ap (λ (a : Permuted). a .permutation) (c .before .before .read .ensures)
 
-place-is : (c : tie.After-successor) → c .successor .result .place ≡ placed (c .before .before .read .result .permutation) .place
+place-is : (c : tie.After-successor) → c .successor .result .place ≡ successorAnswer (c .before .before .read .result .permutation) .place
 place-is c = ap (λ (a : Placed). a .place) (c .successor .ensures)
 
 bounds : (c : tie.After-successor)

@@ -2,8 +2,8 @@
 use mathlib.Core.Path.{_≡_, sym, ap, subst, _∙_}
 use Prim.Native.Nat.{ℕ, _-_, _≤_}
 use native.Mathlib.Omega.{arith}
-use Rattle.permutation.specs.Records.{listOf, faultOf}
-use Rattle.permutation.specs.Answers.{placed}
+use Rattle.permutation.specs.Records.{listOf, recordNumber}
+use Rattle.permutation.specs.Answers.{successorAnswer}
 use Rattle.permutation.specs.declared.answers.Permuted.{Permuted}
 use Rattle.permutation.specs.declared.answers.Placed.{Placed}
 use Rattle.ranking.specs.declared.answers.Ranked.{Ranked}
@@ -24,8 +24,8 @@ first-requires : tie.Need-successor-requires Inv-loop μ-loop
 first-requires c κs = search needs
 
 -- the number of the first record's successor is the record's
-number-is : (c : tie.After-successor Inv-loop μ-loop) → c .successor .result .number ≡ faultOf (c .before .args .permutation)
-unfolding placed
+number-is : (c : tie.After-successor Inv-loop μ-loop) → c .successor .result .number ≡ recordNumber (c .before .args .permutation)
+unfolding successorAnswer
 number-is c = ap (λ (a : Placed). a .number) (c .successor .ensures)
 
 returns : tie.Need-returns Inv-loop μ-loop

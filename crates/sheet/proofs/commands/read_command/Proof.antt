@@ -5,7 +5,7 @@ use native.Mathlib.Omega.{arith}
 use borrow.Author.Needs.{needs}
 use lib.ListN.{getD}
 use Rattle.sheet.specs.Sheet.{command, bodyAt}
-use Rattle.sheet.specs.Parts.{entryRead}
+use Rattle.sheet.specs.Parts.{entryAnswer}
 use Rattle.sheet.proofs.Cases.{command-end, command-half, command-stray, command-body, body-count, body-rewrite, body-store, body-none}
 use Rattle.sheet.proofs.commands.read_command.Statement.{statement}
 use Rattle.sheet.proofs.commands.read_command.Tie as tie
@@ -21,8 +21,8 @@ at-body d =
     (command-body _ _ _ (tests .before .before .if1 .left) (tests .if2 .left) (rw (d .before .wide .ensures) at (d .if3 .left)))
 
 returns : tie.Need-returns
-unfolding entryRead
-returns c = c .refuse .ensures ∙ ap entryRead (sym (command-end _ _ _ (c .before .if1 .taken)))
+unfolding entryAnswer
+returns c = c .refuse .ensures ∙ ap entryAnswer (sym (command-end _ _ _ (c .before .if1 .taken)))
 
 shared-slice-read-kind : tie.Need-shared-slice-read-kind
 shared-slice-read-kind c = search needs
@@ -31,19 +31,19 @@ add-place : tie.Need-add-place
 add-place c = search needs
 
 returns-2 : tie.Need-returns-2
-unfolding entryRead
+unfolding entryAnswer
 returns-2 c =
-    c .refuse2 .ensures ∙ ap entryRead (sym (command-half _ _ _ (c .before .before .before .if1 .left) (c .before .if2 .taken)))
+    c .refuse2 .ensures ∙ ap entryAnswer (sym (command-half _ _ _ (c .before .before .before .if1 .left) (c .before .if2 .taken)))
 
 shared-slice-read-group : tie.Need-shared-slice-read-group
 shared-slice-read-group c = search needs
 
 returns-3 : tie.Need-returns-3
-unfolding entryRead
+unfolding entryAnswer
 returns-3 c =
     let tests = c .before .before .before .before in
     c .refuse3 .ensures
-    ∙ ap entryRead
+    ∙ ap entryAnswer
     (sym (command-stray _ _ _ (tests .before .before .if1 .left) (tests .if2 .left) (rw (c .before .before .wide .ensures) at (c .before .if3 .taken))))
 
 add-body : tie.Need-add-body
@@ -67,23 +67,23 @@ store-at-requires : tie.Need-store-at-requires
 store-at-requires c κs = search needs
 
 returns-4 : tie.Need-returns-4
-unfolding entryRead
-returns-4 c = c .count-at .ensures ∙ ap entryRead (sym (at-body (c .before .before .before) ∙ body-count _ _ _ _ _ (c .before .match .keys1)))
+unfolding entryAnswer
+returns-4 c = c .count-at .ensures ∙ ap entryAnswer (sym (at-body (c .before .before .before) ∙ body-count _ _ _ _ _ (c .before .match .keys1)))
 
 returns-5 : tie.Need-returns-5
-unfolding entryRead
-returns-5 c = c .rewrite-at .ensures ∙ ap entryRead (sym (at-body (c .before .before .before) ∙ body-rewrite _ _ _ _ _ (c .before .match .keys2)))
+unfolding entryAnswer
+returns-5 c = c .rewrite-at .ensures ∙ ap entryAnswer (sym (at-body (c .before .before .before) ∙ body-rewrite _ _ _ _ _ (c .before .match .keys2)))
 
 returns-6 : tie.Need-returns-6
-unfolding entryRead
-returns-6 c = c .store-at .ensures ∙ ap entryRead (sym (at-body (c .before .before .before) ∙ body-store _ _ _ _ _ (c .before .match .keys3)))
+unfolding entryAnswer
+returns-6 c = c .store-at .ensures ∙ ap entryAnswer (sym (at-body (c .before .before .before) ∙ body-store _ _ _ _ _ (c .before .match .keys3)))
 
 returns-7 : tie.Need-returns-7
-unfolding entryRead
+unfolding entryAnswer
 returns-7 c =
     let other = c .before .match .rest in
     c .refuse4 .ensures
-    ∙ ap entryRead (sym (at-body (c .before .before .before) ∙ body-none _ _ _ _ _ (other .0 .0 .1) (other .0 .1) (other .1)))
+    ∙ ap entryAnswer (sym (at-body (c .before .before .before) ∙ body-none _ _ _ _ _ (other .0 .0 .1) (other .0 .1) (other .1)))
 
 pub read-command-spec : {M : Type 1} → statement M
 read-command-spec =

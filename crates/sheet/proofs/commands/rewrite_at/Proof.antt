@@ -2,7 +2,7 @@
 use mathlib.Core.Path.{sym, ap, _∙_}
 use native.Mathlib.Omega.{arith}
 use borrow.Author.Needs.{needs}
-use Rattle.sheet.specs.Parts.{entryRead}
+use Rattle.sheet.specs.Parts.{entryAnswer}
 use Rattle.sheet.proofs.Reading.{numbers-length}
 use Rattle.sheet.proofs.Cases.{rewrite-short, rewrite-there}
 use Rattle.sheet.proofs.commands.rewrite_at.Statement.{statement}
@@ -12,8 +12,8 @@ sub-if1 : tie.Need-sub-if1
 sub-if1 c = search needs
 
 returns : tie.Need-returns
-unfolding entryRead
-returns c = c .refuse .ensures ∙ ap entryRead (sym (rewrite-short _ _ _ _ (omega arith) (omega arith)))
+unfolding entryAnswer
+returns c = c .refuse .ensures ∙ ap entryAnswer (sym (rewrite-short _ _ _ _ (omega arith) (omega arith)))
 
 names-at-requires : tie.Need-names-at-requires
 names-at-requires c κs = search needs
@@ -22,7 +22,7 @@ add-t6 : tie.Need-add-t6
 add-t6 c = search needs
 
 returns-2 : tie.Need-returns-2
-unfolding entryRead
+unfolding entryAnswer
 returns-2 c =
     let a = c .before .before .before .args in
     rw (c .names-at .ensures, rewrite-there (a .group) (a .s .now) (a .at) (a .n) (omega arith), numbers-length)

@@ -2,7 +2,7 @@
 use mathlib.Core.Path.{sym, ap, _∙_}
 use native.Mathlib.Omega.{arith}
 use borrow.Author.Needs.{needs}
-use Rattle.sheet.specs.Parts.{entryRead}
+use Rattle.sheet.specs.Parts.{entryAnswer}
 use Rattle.sheet.proofs.Cases.{store-short, store-there}
 use Rattle.sheet.proofs.commands.store_at.Statement.{statement}
 use Rattle.sheet.proofs.commands.store_at.Tie as tie
@@ -11,8 +11,8 @@ sub-if1 : tie.Need-sub-if1
 sub-if1 c = search needs
 
 returns : tie.Need-returns
-unfolding entryRead
-returns c = c .refuse .ensures ∙ ap entryRead (sym (store-short _ _ _ (omega arith)))
+unfolding entryAnswer
+returns c = c .refuse .ensures ∙ ap entryAnswer (sym (store-short _ _ _ (omega arith)))
 
 little-requires : tie.Need-little-requires
 little-requires c κs = search needs
@@ -27,10 +27,10 @@ add-untargeted : tie.Need-add-untargeted
 add-untargeted c = search needs
 
 returns-2 : tie.Need-returns-2
-unfolding entryRead
+unfolding entryAnswer
 returns-2 c =
     c .untargeted .ensures
-    ∙ rw (c .before .before .little .ensures .0, c .before .little2 .ensures .0) (ap entryRead (sym (store-there _ _ _ (omega arith))))
+    ∙ rw (c .before .before .little .ensures .0, c .before .little2 .ensures .0) (ap entryAnswer (sym (store-there _ _ _ (omega arith))))
 
 pub store-at-spec : {M : Type 1} → statement M
 store-at-spec =

@@ -8,7 +8,7 @@ use lib.Seq.{take-at}
 use Rattle.theory.specs.Refusal.{sizeOf}
 use Rattle.theory.proofs.Refusal.{size-range, size-refused}
 use Rattle.sheet.specs.Held.{noGroup}
-use Rattle.sheet.specs.Parts.{groupRead, numbers}
+use Rattle.sheet.specs.Parts.{groupAnswer, numbers}
 use Rattle.sheet.proofs.Reading.{numbers-length}
 use Rattle.sheet.proofs.Cases.{Sized, group-end, group-missized, group-short, group-tied, group-there}
 use Rattle.sheet.proofs.groups.read_group.Statement.{statement}
@@ -34,21 +34,21 @@ first-levels c =
     rw (c .levels-at .ensures) (take-at (numbers 2 n (a .s .now) (a .at + 1)) _ n (numbers-length (a .s .now) 2 n (a .at + 1)))
 
 returns : tie.Need-returns
-unfolding groupRead
-returns c = c .refuse .ensures ∙ ap groupRead (sym (group-end _ _ (c .before .if1 .taken)))
+unfolding groupAnswer
+returns c = c .refuse .ensures ∙ ap groupAnswer (sym (group-end _ _ (c .before .if1 .taken)))
 
 shared-slice-read-wide : tie.Need-shared-slice-read-wide
 shared-slice-read-wide c = search needs
 
 returns-2 : tie.Need-returns-2
-unfolding groupRead
+unfolding groupAnswer
 returns-2 c =
     let size = c .before .before in
     let wide = size .before in
     let out : sizeOf (wide .wide .result) ≡ 0 → ⊥ = λ z. c .before .if2 .taken (size .size-of .ensures ∙ z) in
     c .refuse2 .ensures
     ∙ ap (λ (k : ℕ). record { number = k; group = noGroup; next = 0 }) (size .size-of .ensures ∙ size-refused (wide .wide .result) out .1)
-    ∙ ap groupRead (sym (group-missized _ _ _ (wide .before .before .if1 .left) (wide .wide .ensures) out))
+    ∙ ap groupAnswer (sym (group-missized _ _ _ (wide .before .before .if1 .left) (wide .wide .ensures) out))
 
 add-from : tie.Need-add-from
 add-from c = search needs
@@ -60,8 +60,8 @@ mul-if3 : tie.Need-mul-if3
 mul-if3 c = let few = sized-now c .few in search needs
 
 returns-3 : tie.Need-returns-3
-unfolding groupRead
-returns-3 c = c .refuse3 .ensures ∙ ap groupRead (sym (group-short _ _ _ (sized-now (c .before .before)) (omega arith)))
+unfolding groupAnswer
+returns-3 c = c .refuse3 .ensures ∙ ap groupAnswer (sym (group-short _ _ _ (sized-now (c .before .before)) (omega arith)))
 
 levels-at-requires : tie.Need-levels-at-requires
 levels-at-requires c κs = (sized-now (c .before) .few, omega arith)
@@ -73,12 +73,12 @@ slice-aggregate-tied : tie.Need-slice-aggregate-tied
 slice-aggregate-tied c = rw (first-levels (c .before), numbers-length)
 
 returns-4 : tie.Need-returns-4
-unfolding groupRead
+unfolding groupAnswer
 returns-4 c =
     let tied = c .before .before in
     let levels = tied .before .before in
     c .refuse4 .ensures
-    ∙ ap groupRead
+    ∙ ap groupAnswer
     (sym (group-tied _ _ _ (sized-now (levels .before .before)) (omega arith) _ (first-levels levels) (sym (tied .tied .ensures) ∙ c .before .if4 .taken)))
 
 mul-t7 : tie.Need-mul-t7
@@ -88,7 +88,7 @@ add-t11 : tie.Need-add-t11
 add-t11 c = search needs
 
 returns-5 : tie.Need-returns-5
-unfolding groupRead
+unfolding groupAnswer
 returns-5 c =
     let tied = c .before in
     let levels = tied .before .before in

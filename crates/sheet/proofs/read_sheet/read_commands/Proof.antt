@@ -2,30 +2,30 @@
 use mathlib.Core.Path.{sym, ap, _∙_}
 use native.Mathlib.Omega.{arith}
 use borrow.Author.Needs.{needs}
-use Rattle.sheet.specs.Held.{sheetRead}
+use Rattle.sheet.specs.Held.{sheetAnswer}
 use Rattle.sheet.proofs.Cases.{commands-short, commands-many, commands-row}
 use Rattle.sheet.proofs.read_sheet.read_commands.Statement.{statement}
 use Rattle.sheet.proofs.read_sheet.read_commands.Tie as tie
 
 returns : tie.Need-returns
-unfolding sheetRead
-returns c = c .refuse .ensures ∙ ap sheetRead (sym (commands-short _ _ _ (omega arith)))
+unfolding sheetAnswer
+returns c = c .refuse .ensures ∙ ap sheetAnswer (sym (commands-short _ _ _ (omega arith)))
 
 sub-if2 : tie.Need-sub-if2
 sub-if2 c = search needs
 
 returns-2 : tie.Need-returns-2
-unfolding sheetRead
-returns-2 c = c .refuse2 .ensures ∙ ap sheetRead (sym (commands-short _ _ _ (omega arith)))
+unfolding sheetAnswer
+returns-2 c = c .refuse2 .ensures ∙ ap sheetAnswer (sym (commands-short _ _ _ (omega arith)))
 
 little-requires : tie.Need-little-requires
 little-requires c κs = search needs
 
 returns-3 : tie.Need-returns-3
-unfolding sheetRead
+unfolding sheetAnswer
 returns-3 c =
     c .refuse3 .ensures
-    ∙ ap sheetRead (sym (commands-many _ _ _ _ (omega arith) (c .before .before .little .ensures .0) (c .before .if3 .taken)))
+    ∙ ap sheetAnswer (sym (commands-many _ _ _ _ (omega arith) (c .before .before .little .ensures .0) (c .before .if3 .taken)))
 
 add-read-entries : tie.Need-add-read-entries
 add-read-entries c = search needs
@@ -36,7 +36,7 @@ read-entries-requires c κs = search needs
 returns-4 : tie.Need-returns-4
 returns-4 c =
     c .read-entries .ensures
-    ∙ ap sheetRead (sym (commands-row _ _ _ _ (omega arith) (c .before .before .little .ensures .0) (c .before .if3 .left)))
+    ∙ ap sheetAnswer (sym (commands-row _ _ _ _ (omega arith) (c .before .before .little .ensures .0) (c .before .if3 .left)))
 
 pub read-commands-spec : {M : Type 1} → statement M
 read-commands-spec =

@@ -9,8 +9,8 @@ use lib.Seq.{length-take-le}
 use Rattle.sheet.specs.Bytes.{Got}
 use Rattle.sheet.specs.Sheet.{command}
 use Rattle.theory.specs.Lists.{padded}
-use Rattle.sheet.specs.Held.{noEntry, sheetRead, groupsIn}
-use Rattle.sheet.specs.Parts.{entryRead}
+use Rattle.sheet.specs.Held.{noEntry, sheetAnswer, groupsIn}
+use Rattle.sheet.specs.Parts.{entryAnswer}
 use Rattle.sheet.specs.declared.held.Groups.{Groups}
 use Rattle.sheet.specs.declared.held.Entry.{Entry}
 use Rattle.sheet.specs.declared.held.Sheet.{Sheet}
@@ -43,7 +43,7 @@ sizes-now c = rw (c .sizes-of .ensures) (sizes-front (c .before .before .pre .1)
 -- so what is found is a command of the sheet
 found-now : (c : tie.After-read-command Inv-loop μ-loop)
     → let a = c .before .before .before .before .before .before .before .args in
-    c .read-command .result ≡ entryRead (reader (a .groups) (a .s .now) (c .before .before .before .loop .at))
+    c .read-command .result ≡ entryAnswer (reader (a .groups) (a .s .now) (c .before .before .before .loop .at))
 found-now c = rw (sizes-now (c .before .before .before .before .before)) at (c .read-command .ensures)
 
 sizes-of-requires : tie.Need-sizes-of-requires Inv-loop μ-loop
@@ -69,13 +69,13 @@ read-command-requires c κs =
     rw (sizes-now sizes) (small (groupsIn (start .args .groups)) (start .pre .1 .readable))
 
 returns : tie.Need-returns Inv-loop μ-loop
-unfolding sheetRead
+unfolding sheetAnswer
 returns c =
     let l = c .before .before .before .before .before .before .loop in
     let found = c .before .before .before in
     let bad = answered-fault entry-numbered (found .read-command .result) _ (found-now found) (c .before .if1 .taken) in
     let stopped = turns-stop (l .inv) (search needs) (bad .0) (bad .1) in
-    c .refuse .ensures ∙ rw (bad .2) (ap sheetRead (sym (row-fault _ _ _ _ _ stopped)))
+    c .refuse .ensures ∙ rw (bad .2) (ap sheetAnswer (sym (row-fault _ _ _ _ _ stopped)))
 
 mul-entries : tie.Need-mul-entries Inv-loop μ-loop
 mul-entries c = search needs
@@ -90,7 +90,7 @@ loop-less : tie.Need-loop-less Inv-loop μ-loop
 loop-less c = search needs
 
 loop-again : tie.Need-loop-again Inv-loop μ-loop
-unfolding entryRead
+unfolding entryAnswer
 loop-again c =
     let l = c .before .before .before .before .before .before .loop in
     let found = c .before .before .before in
@@ -99,13 +99,13 @@ loop-again c =
     (ap (λ (r : EntryRead). r .entry) (good .3)) (ap (λ (r : EntryRead). r .next) (good .3))
 
 returns-2 : tie.Need-returns-2 Inv-loop μ-loop
-unfolding sheetRead
+unfolding sheetAnswer
 returns-2 c =
     let l = c .before .before .before .loop in
-    c .refuse2 .ensures ∙ ap sheetRead (sym (row-more _ _ _ _ _ _ (turns-all (l .inv) (search needs)) (λ e. omega arith)))
+    c .refuse2 .ensures ∙ ap sheetAnswer (sym (row-more _ _ _ _ _ _ (turns-all (l .inv) (search needs)) (λ e. omega arith)))
 
 returns-3 : tie.Need-returns-3 Inv-loop μ-loop
-unfolding sheetRead
+unfolding sheetAnswer
 returns-3 c =
     let start = c .before .before .before .before .before .before in
     let l = c .before .before .loop in
@@ -113,7 +113,7 @@ returns-3 c =
     let front = l .inv .front ∙ ap (padded 1000 noEntry) (map-id (l .inv .read)) in
     ap (λ (s : Sheet). record { number = 0; sheet = s })
     (sheet-held (start .pre .1) _ (l .entries) (l .inv .read) (turns-long (l .inv) done) front)
-    ∙ ap sheetRead (sym (row-ends _ _ _ _ _ _ (turns-all (l .inv) done) (c .if2 .left)))
+    ∙ ap sheetAnswer (sym (row-ends _ _ _ _ _ _ (turns-all (l .inv) done) (c .if2 .left)))
 
 pub read-entries-spec : {M : Type 1} → statement M
 read-entries-spec =

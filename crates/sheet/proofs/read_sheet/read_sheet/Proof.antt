@@ -5,8 +5,8 @@ use Prim.Native.Nat.{ℕ, _-_}
 use native.Mathlib.Omega.{arith}
 use borrow.Author.Needs.{needs}
 use Rattle.sheet.specs.Sheet.{group, commands}
-use Rattle.sheet.specs.Held.{groupOf, noGroup, groupsOf, sheetRead, groupsIn}
-use Rattle.sheet.specs.Parts.{groupRead}
+use Rattle.sheet.specs.Held.{groupOf, noGroup, groupsOf, sheetAnswer, groupsIn}
+use Rattle.sheet.specs.Parts.{groupAnswer}
 use Rattle.sheet.specs.declared.held.Groups.{Groups}
 use Rattle.sheet.specs.declared.groups.GroupRead.{GroupRead}
 use Rattle.sheet.proofs.InMemory.{groups-back, read-hold}
@@ -32,28 +32,28 @@ held-now c =
     λ i. record { count = sym long i; list = l .inv .front i }
 
 returns : tie.Need-returns Inv-loop μ-loop
-unfolding sheetRead
-returns c = c .refuse .ensures ∙ ap sheetRead (sym (sheet-none _ (c .before .if1 .taken)))
+unfolding sheetAnswer
+returns c = c .refuse .ensures ∙ ap sheetAnswer (sym (sheet-none _ (c .before .if1 .taken)))
 
 shared-slice-read-wide : tie.Need-shared-slice-read-wide Inv-loop μ-loop
 shared-slice-read-wide c = search needs
 
 returns-2 : tie.Need-returns-2 Inv-loop μ-loop
-unfolding sheetRead
+unfolding sheetAnswer
 returns-2 c =
-    c .refuse2 .ensures ∙ ap sheetRead (sym (sheet-few _ _ (omega arith) (c .before .before .wide .ensures) (omega arith)))
+    c .refuse2 .ensures ∙ ap sheetAnswer (sym (sheet-few _ _ (omega arith) (c .before .before .wide .ensures) (omega arith)))
 
 returns-3 : tie.Need-returns-3 Inv-loop μ-loop
-unfolding sheetRead
+unfolding sheetAnswer
 returns-3 c =
     c .refuse3 .ensures
-    ∙ ap sheetRead (sym (sheet-many _ _ (omega arith) (c .before .before .before .wide .ensures) (omega arith) (c .before .if3 .taken)))
+    ∙ ap sheetAnswer (sym (sheet-many _ _ (omega arith) (c .before .before .before .wide .ensures) (omega arith) (c .before .if3 .taken)))
 
 loop-holds : tie.Need-loop-holds Inv-loop μ-loop
 loop-holds c = rw (c .no-groups .ensures) (turns-none groupOf 64 noGroup (group _) _ 1)
 
 returns-4 : tie.Need-returns-4 Inv-loop μ-loop
-unfolding sheetRead
+unfolding sheetAnswer
 returns-4 c =
     let l = c .before .before .before .before .before .loop in
     let found = c .before .before .before .read-group in
@@ -62,7 +62,7 @@ returns-4 c =
     let stopped = turns-stop (l .inv) (search needs) (bad .0) (bad .1) in
     c .refuse4 .ensures
     ∙ rw (bad .2)
-    (ap sheetRead (sym (sheet-fault _ _ (omega arith) (tests .before .before .wide .ensures) (tests .before .if2 .left) (tests .if3 .left) _ stopped)))
+    (ap sheetAnswer (sym (sheet-fault _ _ (omega arith) (tests .before .before .wide .ensures) (tests .before .if2 .left) (tests .if3 .left) _ stopped)))
 
 mul-list : tie.Need-mul-list Inv-loop μ-loop
 mul-list c = search needs
@@ -77,7 +77,7 @@ loop-less : tie.Need-loop-less Inv-loop μ-loop
 loop-less c = search needs
 
 loop-again : tie.Need-loop-again Inv-loop μ-loop
-unfolding groupRead
+unfolding groupAnswer
 loop-again c =
     let l = c .before .before .before .before .before .loop in
     let found = c .before .before .before .read-group in
@@ -99,7 +99,7 @@ returns-5 c =
     let whole =
     sheet-groups bytes _ (omega arith) (tests .before .before .wide .ensures) (tests .before .if2 .left) (tests .if3 .left) (l .inv .read) _
     (turns-all (l .inv) (search needs)) in
-    c .read-commands .ensures ∙ ap sheetRead (ap (λ (Ls : List (List ℕ)). commands Ls bytes (l .at)) back ∙ sym whole)
+    c .read-commands .ensures ∙ ap sheetAnswer (ap (λ (Ls : List (List ℕ)). commands Ls bytes (l .at)) back ∙ sym whole)
 
 pub read-sheet-spec : {M : Type 1} → statement M
 read-sheet-spec =

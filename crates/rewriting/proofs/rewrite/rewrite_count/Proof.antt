@@ -1,9 +1,9 @@
--- `rewriting::rewrite::rewrite_number` meets its contract: the cells gone through leave r of the target's. Assumes nothing.
+-- `rewriting::rewrite::rewrite_count` meets its contract: the cells gone through leave r of the target's. Assumes nothing.
 use native.Mathlib.Omega.{arith}
 use borrow.Author.Needs.{needs}
 use Rattle.rewriting.proofs.Sequence.{Crossing, start, end, step-crossed, step-passed}
-use Rattle.rewriting.proofs.rewrite.rewrite_number.Statement.{statement}
-use Rattle.rewriting.proofs.rewrite.rewrite_number.Tie as tie
+use Rattle.rewriting.proofs.rewrite.rewrite_count.Statement.{statement}
+use Rattle.rewriting.proofs.rewrite.rewrite_count.Tie as tie
 
 abbrev Inv-loop : tie.InvT-loop
 Inv-loop cells target n r₀ i₀ r i = Crossing cells target n r i
@@ -46,8 +46,8 @@ loop-again-2 c =
 returns : tie.Need-returns Inv-loop μ-loop
 returns c = end (c .before .loop .inv) (omega (arith, c .loop-test .left))
 
-pub rewrite-number-spec : {M : Type 1} → statement M
-rewrite-number-spec =
+pub rewrite-count-spec : {M : Type 1} → statement M
+rewrite-count-spec =
     tie.close
     (tie.spec
     Inv-loop

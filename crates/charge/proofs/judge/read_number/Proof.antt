@@ -1,4 +1,4 @@
--- `charge::judge::fault` meets its contract: each test decides the number. Assumes nothing.
+-- `charge::judge::read_number` meets its contract: each test decides the number. Assumes nothing.
 use mathlib.Core.Path.{_≡_, sym, _∙_}
 use mathlib.Core.Bool.{cond}
 use lib.ListN.{length}
@@ -6,8 +6,8 @@ use Rattle.theory.specs.Reasons.{done, tie}
 use Rattle.theory.specs.Refusal.{sizeOf}
 use Rattle.theory.specs.Levels.{tied, readNumber}
 use Rattle.theory.proofs.Refusal.{orElse-refused}
-use Rattle.charge.proofs.judge.fault.Statement.{statement}
-use Rattle.charge.proofs.judge.fault.Tie as tie
+use Rattle.charge.proofs.judge.read_number.Statement.{statement}
+use Rattle.charge.proofs.judge.read_number.Tie as tie
 
 returns : tie.Need-returns
 unfolding readNumber
@@ -27,5 +27,5 @@ returns-3 : tie.Need-returns-3
 unfolding readNumber
 returns-3 c = rw (sized (c .before .before), sym (c .before .tied .ensures) ∙ c .if2 .left)
 
-pub fault-spec : {M : Type 1} → statement M
-fault-spec = tie.close (tie.spec (λ c κs. tt) returns (λ c κs. tt) returns-2 returns-3)
+pub read-number-spec : {M : Type 1} → statement M
+read-number-spec = tie.close (tie.spec (λ c κs. tt) returns (λ c κs. tt) returns-2 returns-3)
