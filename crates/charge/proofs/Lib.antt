@@ -3,5 +3,6 @@ pub mod Scanning
 pub mod Indexing
 pub mod Sorting
 pub mod Numbers
+pub mod ReadLevels
 pub mod Pushing
 pub mod Counting

@@ -1,5 +1,4 @@
 -- Laws that the proofs of the functions use.
-pub mod Standing
 pub mod Raising
 pub mod Judging
 pub mod Sequence

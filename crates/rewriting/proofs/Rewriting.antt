@@ -29,7 +29,7 @@ use Rattle.charge.proofs.Sorting.{row-first}
 use Rattle.charge.proofs.Numbers.{pushes-refused}
 use Rattle.rewriting.specs.Answers.{fitOf, pushesTo, targetNumber, rewriteNumber, rewriteAnswer, rewriteLevels, rewriteList, RewriteOf}
 use Rattle.rewriting.specs.Raising.{Pushable, raised}
-use Rattle.rewriting.proofs.Standing.{row-readable}
+use Rattle.charge.proofs.ReadLevels.{row-readable}
 use Rattle.rewriting.proofs.Targets.{target-permutation}
 
 -- ---- where the judge does not refuse

@@ -5,7 +5,7 @@ pub mod InMemory
 pub mod Longest
 pub mod Claims
 pub mod Spelled
-pub mod Reading
+pub mod ByteNumbers
 pub mod Loops
-pub mod Answers
-pub mod Cases
+pub mod FaultNumbers
+pub mod ByTests

@@ -36,14 +36,14 @@ module _ (at k : ℕ) (s : List ℕ) where
   part-at i h = rw (getD-take, getD-drop)
 
 -- after a turn that took the byte before index i: what the value w spells, its range, and that it fits
-pub record Turn (xs : List ℕ) (k i w : ℕ) : Type 0 where
+pub record ByteTaken (xs : List ℕ) (k i w : ℕ) : Type 0 where
   pub spells : w ≡ little (drop (i - 1) xs)
   pub range : w < 256 ^ (k - (i - 1))
   pub fits : w < 2 ^ 64
 
-pub turn : (xs : List ℕ) (k i v b : ℕ) → length xs ≡ k → k ≤ 8 → 0 < i → i ≤ k → v ≡ little (drop i xs)
-    → v < 256 ^ (k - i) → b ≡ getD xs (i - 1) 0 → b < 256 → Turn xs k i (v * 256 + b)
-turn xs k i v b len most pos le e hv eb hb =
+pub byte-taken : (xs : List ℕ) (k i v b : ℕ) → length xs ≡ k → k ≤ 8 → 0 < i → i ≤ k → v ≡ little (drop i xs)
+    → v < 256 ^ (k - i) → b ≡ getD xs (i - 1) 0 → b < 256 → ByteTaken xs k i (v * 256 + b)
+byte-taken xs k i v b len most pos le e hv eb hb =
     let longer : suc (k - i) ≡ k - (i - 1) = omega arith in
     let wide : v * 256 + b < 256 ^ suc (k - i) = little-range (k - i) v b hv hb in
     record {

@@ -24,7 +24,7 @@ use Rattle.theory.proofs.Numbering.{numberOf}
 use Rattle.theory.proofs.Prefixes.{names-distinct, permutation-prefix, prefixNumber-numberOf, numbering}
 use Rattle.permutation.specs.Spots.{spot}
 use Rattle.permutation.proofs.Spots.{under, under-zero, under-suc, spot-first}
-use Rattle.symbols.specs.PrefixDigits.{Numbered}
+use Rattle.symbols.specs.PrefixDigits.{RowSpots}
 
 -- ---- the place of a name among those that are left without q
 
@@ -101,7 +101,7 @@ pub record Counted (n p : ℕ) (xs : List ℕ) (i number : ℕ) : Type 0 where
   pub left : whole number (freeAt n i xs) (drop i (take p xs)) ≡ prefixNumber n p xs
 
 -- one turn: cell c at index i, whose spot is s, is counted too
-pub record Turn (n p : ℕ) (xs : List ℕ) (i number c s : ℕ) : Type 0 where
+pub record CellCounted (n p : ℕ) (xs : List ℕ) (i number c s : ℕ) : Type 0 where
   pub below : s < c
   pub fits : number * (n - i) + (c - 1 - s) < 2 ^ 64
   pub next : Counted n p xs (i + 1) (number * (n - i) + (c - 1 - s))
@@ -172,7 +172,7 @@ module _ {n p : ℕ} {xs : List ℕ} (o : IsPermutation n xs) (le : p ≤ n) whe
         let room : length l ≤ length free = omega (arith, step .free, length-drop (suc i) (take p xs), prefix-long) in
         omega (arith, counted-low (number * (n - i) + (c - 1 - s)) free l room, step .left, fits few)
 
-    turn : n ≤ 20 → Turn n p xs i number c s
+    turn : n ≤ 20 → CellCounted n p xs i number c s
     turn few = record {
       below = omega (arith, place, placeOf-low c (freeAt n i xs));
       fits = step-fits few;
@@ -180,13 +180,13 @@ module _ {n p : ℕ} {xs : List ℕ} (o : IsPermutation n xs) (le : p ≤ n) whe
     }
 
 -- the turn on a row: the cell and its spot, as they are looked up
-module _ {n p : ℕ} {cells spots : List ℕ} (h : Numbered n p cells spots) {i c : ℕ} (more : i < p) (is : c ≡ getD cells i 0) where
+module _ {n p : ℕ} {cells spots : List ℕ} (h : RowSpots n p cells spots) {i c : ℕ} (more : i < p) (is : c ≡ getD cells i 0) where
   cell-at : c ≡ getD (take n cells) i 0
   cell-at = is ∙ sym (getD-take n cells i 0 (omega (arith, h .within)))
 
   pub cell-bounds : (1 ≤ c) × (c ≤ n)
   cell-bounds = rw cell-at (entry-inside (h .permutation) i (omega (arith, h .permutation .long, h .within)))
 
-  pub row-turn : {number s : ℕ} → Counted n p (take n cells) i number → s ≡ getD spots c 0 → Turn n p (take n cells) i number c s
+  pub row-turn : {number s : ℕ} → Counted n p (take n cells) i number → s ≡ getD spots c 0 → CellCounted n p (take n cells) i number c s
   row-turn v e =
       turn (h .permutation) (h .within) v more cell-at (e ∙ h .has-spots .each c (cell-bounds .0) (cell-bounds .1)) (h .many)

@@ -28,7 +28,7 @@ use Rattle.charge.specs.declared.answers.Pushes.{Pushes}
 use Rattle.charge.proofs.Numbers.{pushes-refused}
 use Rattle.charge.proofs.Pushing.{placed-cell}
 use Rattle.rewriting.specs.Raising.{Pushable, raised}
-use Rattle.rewriting.proofs.Standing.{Standing, row-readable}
+use Rattle.charge.proofs.ReadLevels.{Standing, row-readable}
 use Rattle.symbols.specs.declared.answers.Prefixed.{Prefixed}
 use Rattle.symbols.specs.Answers.{codeNumber, prefixAnswer, prefixOn, pushesFor, storeNumber, storeAnswer, storeLevels, symbolNumber, symbolAnswer, StoreOf}
 use Rattle.symbols.specs.AnyPrefix.{Storable, prefixPushes, prefixLevels, LedBy}

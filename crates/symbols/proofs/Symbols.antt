@@ -22,9 +22,9 @@ use Rattle.permutation.proofs.Checking.{check-spots}
 use Rattle.theory.proofs.Refusal.{refused, orElse-refused, Readable, read-done}
 use Rattle.charge.proofs.Sorting.{row-long, row-first}
 use Rattle.symbols.specs.Answers.{symbolNumber, symbolAnswer}
-use Rattle.symbols.specs.PrefixDigits.{Numbered}
+use Rattle.symbols.specs.PrefixDigits.{RowSpots}
 use Rattle.symbols.specs.declared.answers.Symbol.{Symbol}
-use Rattle.rewriting.proofs.Standing.{Standing}
+use Rattle.charge.proofs.ReadLevels.{Standing}
 
 -- ---- the permutation that was read
 
@@ -46,13 +46,12 @@ module _ {L : List ℕ} {r : Permuted} (s : Standing L r) where
       rw (s .is) (fault-record (length L) (permutationOf L) (s .levels .few) (s .levels .many) (permutationOf-permutation L)) in
       rw size at (check-spots (r .permutation) h (sound (r .permutation) cells-long right))
 
-  pub numbered : {p m : ℕ} {k : Checked} → k ≡ checked (r .permutation) → length (k .spots) ≡ 21
-      → p ≡ prefixLength (length L) m → m ≤ factorial (length L) → Numbered (length L) p (r .permutation .cells) (k .spots)
-  numbered {m = m} h long e fits = record {
+  pub row-spots : {p m : ℕ} {k : Checked} → k ≡ checked (r .permutation)
+      → p ≡ prefixLength (length L) m → m ≤ factorial (length L) → RowSpots (length L) p (r .permutation .cells) (k .spots)
+  row-spots {m = m} h e fits = record {
     many = s .levels .many;
     within = omega (arith, coding (length L) m fits .at-most);
     long = cells-long;
-    spots-long = long;
     permutation = rw cells-first (permutationOf-permutation L);
     has-spots = spots-found h;
   }

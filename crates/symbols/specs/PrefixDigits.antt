@@ -7,10 +7,9 @@ use Rattle.theory.specs.Permutation.{IsPermutation}
 use Rattle.permutation.specs.Spots.{HasSpots}
 
 -- a permutation of n cells leads the row, and these are its spots; its first p cells are the prefix
-pub record Numbered (n p : ℕ) (cells spots : List ℕ) : Type 0 where
+pub record RowSpots (n p : ℕ) (cells spots : List ℕ) : Type 0 where
   pub many : n ≤ 20
   pub within : p ≤ n
   pub long : length cells ≡ 20
-  pub spots-long : length spots ≡ 21
   pub permutation : IsPermutation n (take n cells)
   pub has-spots : HasSpots (take n cells) n spots

@@ -11,7 +11,7 @@ use Rattle.sheet.specs.Sheet.{Contents, sheet}
 use Rattle.sheet.specs.Claims.{Valid}
 use Rattle.sheet.specs.Held.{levelsOf, groupsIn}
 use Rattle.sheet.specs.declared.held.Group.{Group}
-use Rattle.sheet.proofs.Answers.{answered-fault, answered-got}
+use Rattle.sheet.proofs.FaultNumbers.{answered-fault, answered-got}
 use Rattle.sheet.proofs.InMemory.{groups-back, held-count, held-levels}
 use Rattle.sheet.proofs.Claims.{sheets}
 use Rattle.work.specs.Work.{rankOf, answersOf, groupsLeft}
@@ -19,7 +19,7 @@ use Rattle.work.specs.Answers.{noAnswer, outcomeOf, workAnswer}
 use Rattle.work.specs.declared.answers.Outcome.{Outcome}
 use Rattle.work.specs.declared.answers.Worked.{Worked}
 use Rattle.work.proofs.Working.{answers-length, groupsAfterAll-held}
-use Rattle.work.proofs.Outcomes.{worked-numbered}
+use Rattle.work.proofs.Outcomes.{worked-tells-fault}
 use Rattle.text.specs.Text.{faultLine, commandLines, groupLines, textOf}
 use Rattle.text.specs.Laying.{OutcomeHeld}
 
@@ -63,12 +63,12 @@ module _ (s : List ℕ) (r : Worked) (is : r ≡ workAnswer (sheet s)) where
   pub printable : r .number ≡ 0 → Printable s (r .outcome)
   unfolding workAnswer
   printable z =
-      let found = answered-got worked-numbered r (sheet s) is z in
+      let found = answered-got worked-tells-fault r (sheet s) is z in
       let same : r .outcome ≡ outcomeOf (found .0) = ap (λ (r : Worked). r .outcome) (found .3) in
       rw same (printable-of s (found .0) (found .1) (found .2))
 
   pub fault-text : (r .number ≡ 0 → ⊥) → faultLine (r .number) ≡ textOf (sheet s)
   unfolding textOf
   fault-text ne =
-      let bad = answered-fault worked-numbered r (sheet s) is ne in
+      let bad = answered-fault worked-tells-fault r (sheet s) is ne in
       rw (bad .1) (ap faultLine (bad .2))

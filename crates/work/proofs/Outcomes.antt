@@ -7,7 +7,7 @@ use Rattle.sheet.specs.Sheet.{Contents, sheet}
 use Rattle.sheet.specs.Held.{noContents, heldOf, contentsOf, sheetAnswer}
 use Rattle.sheet.specs.declared.held.Sheet.{Sheet}
 use Rattle.sheet.specs.declared.held.SheetRead.{SheetRead}
-use Rattle.sheet.proofs.Answers.{Numbered, sheet-numbered, answered-fault, answered-got}
+use Rattle.sheet.proofs.FaultNumbers.{TellsFault, sheet-tells-fault, answered-fault, answered-got}
 use Rattle.sheet.proofs.Claims.{sheets}
 use Rattle.work.specs.Answers.{outcomeOf, workAnswer}
 use Rattle.sheet.specs.Standing.{SheetHeld}
@@ -25,7 +25,7 @@ pub record Accepted (s : List ℕ) (h : Sheet) : Type 0 where
 pub accepted : (s : List ℕ) (r : SheetRead) → r ≡ sheetAnswer (sheet s) → r .number ≡ 0 → Accepted s (r .sheet)
 unfolding sheetAnswer
 accepted s r e z =
-    let found = answered-got sheet-numbered r (sheet s) e z in
+    let found = answered-got sheet-tells-fault r (sheet s) e z in
     let is : r .sheet ≡ heldOf (found .0) = ap (λ (r : SheetRead). r .sheet) (found .3) in
     let back : contentsOf (r .sheet) ≡ found .0 = ap contentsOf is ∙ sheets .held (found .0) in
     record {
@@ -43,7 +43,7 @@ module _ (s : List ℕ) (r : SheetRead) (is : r ≡ sheetAnswer (sheet s)) {o : 
       → _≡_ {A = Worked} (record { number = r .number; outcome = o }) (workAnswer (sheet s))
   unfolding workAnswer
   worked-fault ne zeros =
-      let bad = answered-fault sheet-numbered r (sheet s) is ne in
+      let bad = answered-fault sheet-tells-fault r (sheet s) is ne in
       rw (bad .1) (λ i. record { number = bad .2 i; outcome = zeros i })
 
   pub worked-done : r .number ≡ 0 → o ≡ outcomeOf (contentsOf (r .sheet)) → _≡_ {A = Worked} (record { number = 0; outcome = o }) (workAnswer (sheet s))
@@ -52,6 +52,6 @@ module _ (s : List ℕ) (r : SheetRead) (is : r ≡ sheetAnswer (sheet s)) {o : 
       let a = accepted s r is z in
       rw (a .reads) (ap (λ (o : Outcome). record { number = 0; outcome = o }) (done ∙ ap outcomeOf (a .says)))
 
-pub worked-numbered : Numbered (λ (r : Worked). r .number) workAnswer
+pub worked-tells-fault : TellsFault (λ (r : Worked). r .number) workAnswer
 unfolding workAnswer
-worked-numbered = record { bad = λ f. refl; good = λ c end. refl }
+worked-tells-fault = record { bad = λ f. refl; good = λ c end. refl }

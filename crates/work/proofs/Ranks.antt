@@ -11,7 +11,7 @@ use Rattle.ranking.specs.declared.answers.Ranked.{Ranked}
 use Rattle.ranking.proofs.Values.{ranked-record}
 use Rattle.charge.specs.Answers.{readAnswer}
 use Rattle.theory.proofs.Refusal.{readable}
-use Rattle.rewriting.proofs.Standing.{number-is, standing}
+use Rattle.charge.proofs.ReadLevels.{number-is, standing}
 use Rattle.work.specs.Work.{rankOf}
 
 pub read-rank : (L : List ℕ) {read : Permuted} {a : Ranked} → readNumber L ≡ 0 → read ≡ readAnswer L → a ≡ rankAnswer (read .permutation)

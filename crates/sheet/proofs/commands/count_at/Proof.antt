@@ -3,7 +3,7 @@ use mathlib.Core.Path.{sym, ap, _∙_}
 use native.Mathlib.Omega.{arith}
 use borrow.Author.Needs.{needs}
 use Rattle.sheet.specs.Parts.{entryAnswer}
-use Rattle.sheet.proofs.Cases.{count-short, count-there}
+use Rattle.sheet.proofs.ByTests.{count-short, count-there}
 use Rattle.sheet.proofs.commands.count_at.Statement.{statement}
 use Rattle.sheet.proofs.commands.count_at.Tie as tie
 

@@ -7,7 +7,7 @@ use borrow.Author.Needs.{needs}
 use lib.ListN.{replicate}
 use Rattle.theory.proofs.FilledRow.{Filled, filled-more, row-none, row-all}
 use Rattle.sheet.specs.Parts.{numbers}
-use Rattle.sheet.proofs.Reading.{byte-spelled, numbers-length, numbers-at}
+use Rattle.sheet.proofs.ByteNumbers.{byte-spelled, numbers-length, numbers-at}
 use Rattle.sheet.proofs.commands.names_at.Statement.{statement}
 use Rattle.sheet.proofs.commands.names_at.Tie as tie
 

@@ -6,7 +6,7 @@ use borrow.Author.Needs.{needs}
 use lib.ListN.{getD}
 use Rattle.sheet.specs.Sheet.{command, bodyAt}
 use Rattle.sheet.specs.Parts.{entryAnswer}
-use Rattle.sheet.proofs.Cases.{command-end, command-half, command-stray, command-body, body-count, body-rewrite, body-store, body-none}
+use Rattle.sheet.proofs.ByTests.{command-end, command-half, command-stray, command-body, body-count, body-rewrite, body-store, body-none}
 use Rattle.sheet.proofs.commands.read_command.Statement.{statement}
 use Rattle.sheet.proofs.commands.read_command.Tie as tie
 

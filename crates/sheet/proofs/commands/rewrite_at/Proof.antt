@@ -3,8 +3,8 @@ use mathlib.Core.Path.{sym, ap, _∙_}
 use native.Mathlib.Omega.{arith}
 use borrow.Author.Needs.{needs}
 use Rattle.sheet.specs.Parts.{entryAnswer}
-use Rattle.sheet.proofs.Reading.{numbers-length}
-use Rattle.sheet.proofs.Cases.{rewrite-short, rewrite-there}
+use Rattle.sheet.proofs.ByteNumbers.{numbers-length}
+use Rattle.sheet.proofs.ByTests.{rewrite-short, rewrite-there}
 use Rattle.sheet.proofs.commands.rewrite_at.Statement.{statement}
 use Rattle.sheet.proofs.commands.rewrite_at.Tie as tie
 

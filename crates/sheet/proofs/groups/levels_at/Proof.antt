@@ -6,7 +6,7 @@ use borrow.Author.Needs.{needs}
 use lib.ListN.{replicate}
 use Rattle.theory.proofs.FilledRow.{Filled, filled-more, row-none, row-all}
 use Rattle.sheet.specs.Parts.{numbers}
-use Rattle.sheet.proofs.Reading.{numbers-length, numbers-at}
+use Rattle.sheet.proofs.ByteNumbers.{numbers-length, numbers-at}
 use Rattle.sheet.proofs.groups.levels_at.Statement.{statement}
 use Rattle.sheet.proofs.groups.levels_at.Tie as tie
 

@@ -9,8 +9,8 @@ use Rattle.theory.specs.Refusal.{sizeOf}
 use Rattle.theory.proofs.Refusal.{size-range, size-refused}
 use Rattle.sheet.specs.Held.{noGroup}
 use Rattle.sheet.specs.Parts.{groupAnswer, numbers}
-use Rattle.sheet.proofs.Reading.{numbers-length}
-use Rattle.sheet.proofs.Cases.{Sized, group-end, group-missized, group-short, group-tied, group-there}
+use Rattle.sheet.proofs.ByteNumbers.{numbers-length}
+use Rattle.sheet.proofs.ByTests.{Sized, group-end, group-missized, group-short, group-tied, group-there}
 use Rattle.sheet.proofs.groups.read_group.Statement.{statement}
 use Rattle.sheet.proofs.groups.read_group.Tie as tie
 

@@ -7,7 +7,7 @@ use borrow.Author.Needs.{needs}
 use lib.Dec.{lit<}
 use lib.ListN.{take, drop, drop-of-length-le}
 use Rattle.sheet.specs.Bytes as meaning
-use Rattle.sheet.proofs.Spelled.{Turn, turn, little-range, little-fits, part-length, part-at}
+use Rattle.sheet.proofs.Spelled.{ByteTaken, byte-taken, little-range, little-fits, part-length, part-at}
 use Rattle.sheet.proofs.little.little.Statement.{statement}
 use Rattle.sheet.proofs.little.little.Tie as tie
 
@@ -22,12 +22,12 @@ abbrev μ-loop : tie.MeasureT-loop
 turn-at : (c : tie.After-wide-digit Inv-loop μ-loop)
     → let a = c .before .before .before .before .before .args in
     let l = c .before .before .before .loop in
-    Turn (take (a .k) (drop (a .at) (a .s .now))) (a .k) (l .i) (l .value * 256 + c .wide-digit .result)
+    ByteTaken (take (a .k) (drop (a .at) (a .s .now))) (a .k) (l .i) (l .value * 256 + c .wide-digit .result)
 turn-at c =
     let a = c .before .before .before .before .before .args in
     let l = c .before .before .before .loop in
     let len = part-length (a .at) (a .k) (a .s .now) (omega arith) in
-    turn (take (a .k) (drop (a .at) (a .s .now))) (a .k) (l .i) (l .value) (c .wide-digit .result) len (omega arith)
+    byte-taken (take (a .k) (drop (a .at) (a .s .now))) (a .k) (l .i) (l .value) (c .wide-digit .result) len (omega arith)
     (omega arith) (omega arith) (l .inv .1) (l .inv .2)
     (c .wide-digit .ensures ∙ sym (part-at (a .at) (a .k) (a .s .now) (l .i - 1) (omega arith)))
     (omega (arith, c .before .shared-slice-known2 .given (a .at + (l .i - 1)), c .wide-digit .ensures))

@@ -3,7 +3,7 @@ use mathlib.Core.Path.{sym, ap, _∙_}
 use native.Mathlib.Omega.{arith}
 use borrow.Author.Needs.{needs}
 use Rattle.sheet.specs.Held.{sheetAnswer}
-use Rattle.sheet.proofs.Cases.{commands-short, commands-many, commands-row}
+use Rattle.sheet.proofs.ByTests.{commands-short, commands-many, commands-row}
 use Rattle.sheet.proofs.read_sheet.read_commands.Statement.{statement}
 use Rattle.sheet.proofs.read_sheet.read_commands.Tie as tie
 

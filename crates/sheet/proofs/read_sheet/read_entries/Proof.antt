@@ -18,8 +18,8 @@ use Rattle.sheet.specs.declared.commands.EntryRead.{EntryRead}
 use Rattle.sheet.proofs.Valid.{small}
 use Rattle.sheet.proofs.InMemory.{sizes-front, sheet-held}
 use Rattle.sheet.proofs.Loops.{Turns, turns-none, turns-more, turns-stop, turns-all, turns-long}
-use Rattle.sheet.proofs.Answers.{entry-numbered, answered-fault, answered-got}
-use Rattle.sheet.proofs.Cases.{row-fault, row-more, row-ends}
+use Rattle.sheet.proofs.FaultNumbers.{entry-tells-fault, answered-fault, answered-got}
+use Rattle.sheet.proofs.ByTests.{row-fault, row-more, row-ends}
 use Rattle.sheet.proofs.read_sheet.read_entries.Statement.{statement}
 use Rattle.sheet.proofs.read_sheet.read_entries.Tie as tie
 
@@ -73,7 +73,7 @@ unfolding sheetAnswer
 returns c =
     let l = c .before .before .before .before .before .before .loop in
     let found = c .before .before .before in
-    let bad = answered-fault entry-numbered (found .read-command .result) _ (found-now found) (c .before .if1 .taken) in
+    let bad = answered-fault entry-tells-fault (found .read-command .result) _ (found-now found) (c .before .if1 .taken) in
     let stopped = turns-stop (l .inv) (search needs) (bad .0) (bad .1) in
     c .refuse .ensures ∙ rw (bad .2) (ap sheetAnswer (sym (row-fault _ _ _ _ _ stopped)))
 
@@ -94,7 +94,7 @@ unfolding entryAnswer
 loop-again c =
     let l = c .before .before .before .before .before .before .loop in
     let found = c .before .before .before in
-    let good = answered-got entry-numbered (found .read-command .result) _ (found-now found) (c .before .if1 .left) in
+    let good = answered-got entry-tells-fault (found .read-command .result) _ (found-now found) (c .before .if1 .left) in
     turns-more (l .inv) (search needs) (search needs) (good .0) (good .1) (good .2) _ _
     (ap (λ (r : EntryRead). r .entry) (good .3)) (ap (λ (r : EntryRead). r .next) (good .3))
 

@@ -11,8 +11,8 @@ use Rattle.sheet.specs.declared.held.Groups.{Groups}
 use Rattle.sheet.specs.declared.groups.GroupRead.{GroupRead}
 use Rattle.sheet.proofs.InMemory.{groups-back, read-hold}
 use Rattle.sheet.proofs.Loops.{Turns, turns-none, turns-more, turns-stop, turns-all, turns-long}
-use Rattle.sheet.proofs.Answers.{group-numbered, answered-fault, answered-got}
-use Rattle.sheet.proofs.Cases.{sheet-none, sheet-few, sheet-many, sheet-fault, sheet-groups}
+use Rattle.sheet.proofs.FaultNumbers.{group-tells-fault, answered-fault, answered-got}
+use Rattle.sheet.proofs.ByTests.{sheet-none, sheet-few, sheet-many, sheet-fault, sheet-groups}
 use Rattle.sheet.proofs.read_sheet.read_sheet.Statement.{statement}
 use Rattle.sheet.proofs.read_sheet.read_sheet.Tie as tie
 
@@ -58,7 +58,7 @@ returns-4 c =
     let l = c .before .before .before .before .before .loop in
     let found = c .before .before .before .read-group in
     let tests = c .before .before .before .before .before .before .before in
-    let bad = answered-fault group-numbered (found .result) _ (found .ensures) (c .before .if4 .taken) in
+    let bad = answered-fault group-tells-fault (found .result) _ (found .ensures) (c .before .if4 .taken) in
     let stopped = turns-stop (l .inv) (search needs) (bad .0) (bad .1) in
     c .refuse4 .ensures
     ∙ rw (bad .2)
@@ -81,7 +81,7 @@ unfolding groupAnswer
 loop-again c =
     let l = c .before .before .before .before .before .loop in
     let found = c .before .before .before .read-group in
-    let good = answered-got group-numbered (found .result) _ (found .ensures) (c .before .if4 .left) in
+    let good = answered-got group-tells-fault (found .result) _ (found .ensures) (c .before .if4 .left) in
     turns-more (l .inv) (search needs) (search needs) (good .0) (good .1) (good .2) _ _
     (ap (λ (r : GroupRead). r .group) (good .3)) (ap (λ (r : GroupRead). r .next) (good .3))
 

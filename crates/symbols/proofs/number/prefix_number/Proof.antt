@@ -4,7 +4,7 @@ use Prim.Native.Nat.{_-_, _≤_}
 use native.Mathlib.Omega.{arith}
 use lib.ListN.{take}
 use borrow.Author.Needs.{needs}
-use Rattle.symbols.proofs.PrefixDigits.{Counted, Turn, start, end, cell-bounds, row-turn}
+use Rattle.symbols.proofs.PrefixDigits.{Counted, CellCounted, start, end, cell-bounds, row-turn}
 use Rattle.symbols.proofs.number.prefix_number.Statement.{statement}
 use Rattle.symbols.proofs.number.prefix_number.Tie as tie
 
@@ -34,7 +34,7 @@ element-copy-out-wide-2 c = omega (arith, cell c .1)
 -- and what it adds
 turn : (c : tie.After-wide2 Inv-loop μ-loop)
     → let at-loop = c .before .before .before .before .before in
-    Turn (at-loop .before .args .n) (at-loop .before .args .p) (take (at-loop .before .args .n) (at-loop .before .args .cells .now))
+    CellCounted (at-loop .before .args .n) (at-loop .before .args .p) (take (at-loop .before .args .n) (at-loop .before .args .cells .now))
     (at-loop .loop .i) (at-loop .loop .number) (c .before .before .wide .result) (c .wide2 .result)
 turn c =
     let read = c .before .before in

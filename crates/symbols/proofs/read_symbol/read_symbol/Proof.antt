@@ -10,8 +10,8 @@ use Rattle.theory.specs.Factorial.{factorial}
 use Rattle.theory.specs.Levels.{permutationOf}
 use Rattle.theory.specs.Prefix.{symbolOf}
 use Rattle.ranking.proofs.Table.{table-at}
-use Rattle.rewriting.proofs.Standing.{Standing, number-is, standing}
-use Rattle.symbols.proofs.Symbols.{numbered, symbol-is, symbol-refused, symbol-fault, symbol-none, symbol-many, symbol-idle, symbol-done}
+use Rattle.charge.proofs.ReadLevels.{Standing, number-is, standing}
+use Rattle.symbols.proofs.Symbols.{row-spots, symbol-is, symbol-refused, symbol-fault, symbol-none, symbol-many, symbol-idle, symbol-done}
 use Rattle.symbols.proofs.read_symbol.read_symbol.Statement.{statement}
 use Rattle.symbols.proofs.read_symbol.read_symbol.Tie as tie
 
@@ -59,8 +59,7 @@ prefix-length-requires c κs =
 prefix-number-requires : tie.Need-prefix-number-requires
 prefix-number-requires c κs =
     let past = c .before .before .before .before .before .before .before in
-    let long : length (c .before .before .before .before .before .check .result .spots) ≡ 21 = search needs in
-    numbered (read (past .before .before .before)) (c .before .before .before .before .before .check .ensures) long (c .prefix-length .ensures) (high past)
+    row-spots (read (past .before .before .before)) (c .before .before .before .before .before .check .ensures) (c .prefix-length .ensures) (high past)
 
 -- past the tests the prefix's number is the symbol
 found : (c : tie.After-prefix-number)

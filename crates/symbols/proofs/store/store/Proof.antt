@@ -1,6 +1,6 @@
 -- `symbols::store::store` meets its contract: each test decides the number, and past them the prefix is stored. Assumes nothing.
 use borrow.Author.Needs.{needs}
-use Rattle.rewriting.proofs.Standing.{Standing, number-is, standing}
+use Rattle.charge.proofs.ReadLevels.{Standing, number-is, standing}
 use Rattle.symbols.proofs.Storing.{Found, found-done, found-storable, found-stored, store-refused, store-fault, store-value}
 use Rattle.symbols.proofs.store.store.Statement.{statement}
 use Rattle.symbols.proofs.store.store.Tie as tie

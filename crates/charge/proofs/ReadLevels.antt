@@ -1,4 +1,4 @@
--- The permutation that a job reads first, and levels after a row of pushes: they have a permutation still. Assumes nothing.
+-- The permutation that is read from levels, and levels after a row of pushes: they have a permutation still. Assumes nothing.
 use mathlib.Core.Path.{_≡_, sym, ap, _∙_}
 use mathlib.Core.Bool.{true}
 use mathlib.Core.List.{List}

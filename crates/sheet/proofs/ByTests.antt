@@ -16,7 +16,7 @@ use Rattle.sheet.specs.Sheet.{group, entry, countAt, rewriteAt, storeAt,
 use Rattle.sheet.specs.Parts.{numbers}
 use Rattle.sheet.specs.declared.held.Action.the-variants.{Count, Rewrite, Store}
 use Rattle.sheet.specs.declared.held.Entry.{Entry}
-use Rattle.sheet.proofs.Reading.{number-there, number-short, byte-there, row-there, row-short}
+use Rattle.sheet.proofs.ByteNumbers.{number-there, number-short, byte-there, row-there, row-short}
 
 -- ---- a group
 

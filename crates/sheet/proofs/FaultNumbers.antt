@@ -16,23 +16,23 @@ fault-number tied e = omega arith
 fault-number ill-formed e = omega arith
 
 -- answers whose number tells whether there is a fault, and which
-pub record Numbered {A R : Type 0} (number : R → ℕ) (answer : Got A → R) : Type 0 where
+pub record TellsFault {A R : Type 0} (number : R → ℕ) (answer : Got A → R) : Type 0 where
   pub bad : (f : Fault) → number (answer (fault f)) ≡ numberOf f
   pub good : (x : A) (end : ℕ) → number (answer (got x end)) ≡ 0
 
-pub group-numbered : Numbered (λ (r : GroupRead). r .number) groupAnswer
+pub group-tells-fault : TellsFault (λ (r : GroupRead). r .number) groupAnswer
 unfolding groupAnswer
-group-numbered = record { bad = λ f. refl; good = λ L end. refl }
+group-tells-fault = record { bad = λ f. refl; good = λ L end. refl }
 
-pub entry-numbered : Numbered (λ (r : EntryRead). r .number) entryAnswer
+pub entry-tells-fault : TellsFault (λ (r : EntryRead). r .number) entryAnswer
 unfolding entryAnswer
-entry-numbered = record { bad = λ f. refl; good = λ e end. refl }
+entry-tells-fault = record { bad = λ f. refl; good = λ e end. refl }
 
-pub sheet-numbered : Numbered (λ (r : SheetRead). r .number) sheetAnswer
+pub sheet-tells-fault : TellsFault (λ (r : SheetRead). r .number) sheetAnswer
 unfolding sheetAnswer
-sheet-numbered = record { bad = λ f. refl; good = λ c end. refl }
+sheet-tells-fault = record { bad = λ f. refl; good = λ c end. refl }
 
-module _ {A R : Type 0} {number : R → ℕ} {answer : Got A → R} (n : Numbered number answer) where
+module _ {A R : Type 0} {number : R → ℕ} {answer : Got A → R} (n : TellsFault number answer) where
   pub answered-fault : (r : R) (o : Got A) → r ≡ answer o → (number r ≡ 0 → ⊥) → (f : Fault) × (o ≡ fault f) × (number r ≡ numberOf f)
   answered-fault r (fault f) e ne = (f, refl, ap number e ∙ n .bad f)
   answered-fault r (got x end) e ne = absurd (ne (ap number e ∙ n .good x end))
