@@ -6,6 +6,5 @@ pub mod Longest
 pub mod Claims
 pub mod Spelled
 pub mod ByteNumbers
-pub mod Loops
 pub mod FaultNumbers
 pub mod ByTests

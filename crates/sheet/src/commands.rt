@@ -109,7 +109,7 @@ fn store_at(s: &[u8], at: usize, group: u8) -> EntryRead
     untargeted(group, Action::Store(m, symbol), at + 16)
 }
 
-// `sizes` has the number of cells of each group.
+// `sizes` has the number of cells of each group. For other crates too: it asks that no size is above twenty.
 pub fn read_command(s: &[u8], at: usize, sizes: &[usize]) -> EntryRead
     requires { ⌜ Small (now sizes) ⌝ }
     ensures { λ r. ⌜ r ≡ entryAnswer (meaning.command (now (sizes .entry)) (now (s .entry)) at) ⌝ }

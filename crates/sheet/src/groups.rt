@@ -47,6 +47,7 @@ fn levels_at(s: &[u8], from: usize, n: usize) -> [u16; 20]
     levels
 }
 
+// For other crates too.
 pub fn read_group(s: &[u8], at: usize) -> GroupRead
     ensures { λ r. ⌜ r ≡ groupAnswer (meaning.group (now (s .entry)) at) ⌝ }
 {

@@ -72,6 +72,7 @@ pub fn no_entry() -> Entry
     }
 }
 
+// For other crates too.
 pub fn no_entries() -> [Entry; 1000]
     ensures { λ r. ⌜ r ≡ replicate 1000 noEntry ⌝ }
 {

@@ -5,7 +5,7 @@ ghost use lib.ListN.{length, take, drop};
 ghost use Rattle.sheet.specs.Bytes as meaning;
 use permutation::cell::wide_digit;
 
-// The number that k bytes from a place on spell.
+// The number that k bytes from a place on spell. For other crates too: it asks that the bytes are there.
 pub fn little(s: &[u8], at: usize, k: usize) -> u64
     requires { ⌜ (k ≤ 8) × (at + k ≤ length (now s)) ⌝ }
     ensures spelled { λ r. ⌜ r ≡ meaning.little (take k (drop at (now (s .entry)))) ⌝ }

@@ -13,7 +13,7 @@ use Rattle.charge.specs.Answers.{callAnswer}
 use Rattle.rewriting.specs.Answers.{targetNumber, rewriteNumber, rewriteAnswer, rewriteLevels}
 use Rattle.symbols.specs.Answers.{storeAnswer, storeLevels, storeNumber, codeNumber}
 use Rattle.sheet.proofs.Claims.{sheets}
-use Rattle.text.specs.Text.{textOf, line, places, decimal, commandLine, commandLines, groupLine, groupLines}
+use Rattle.layout.specs.Text.{textOf, line, places, decimal, commandLine, commandLines, groupLine, groupLines}
 use Rattle.text.specs.Claims.{Texts}
 use Rattle.work.specs.Work.{answers, groupsAfterAll}
 

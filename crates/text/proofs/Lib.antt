@@ -1,7 +1,4 @@
 -- The proofs of the claims, and the laws that the proofs of the functions share.
 pub mod Printable
-pub mod Decimal
-pub mod Putting
-pub mod Pieces
 pub mod Printing
 pub mod Claims

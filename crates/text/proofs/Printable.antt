@@ -1,42 +1,31 @@
 -- From the outcome of a sheet of bytes to its text. Assumes nothing.
-use mathlib.Core.Path.{_≡_, sym, ap, _∙_}
-use mathlib.Core.List.{List, [], _++_}
-use Prim.Native.Nat.{ℕ, _-_, _≤_, _<_}
+use mathlib.Core.Path.{_≡_, ap}
+use mathlib.Core.List.{List, _++_}
+use Prim.Native.Nat.{ℕ, _-_, _≤_}
 use native.Mathlib.Omega.{arith}
-use lib.ListN.{length, getD, take, replicate}
+use lib.ListN.{length, take, replicate}
 use lib.Seq.{take-at}
-use Rattle.theory.proofs.Padding.{padded-length, padded-map-at}
+use Rattle.theory.proofs.Padding.{padded-length}
 use Rattle.sheet.specs.Bytes.{got}
 use Rattle.sheet.specs.Sheet.{Contents, sheet}
 use Rattle.sheet.specs.Claims.{Valid}
-use Rattle.sheet.specs.Held.{levelsOf, groupsIn}
-use Rattle.sheet.specs.declared.held.Group.{Group}
+use Rattle.sheet.specs.Held.{groupsIn}
 use Rattle.sheet.proofs.FaultNumbers.{answered-fault, answered-got}
-use Rattle.sheet.proofs.InMemory.{groups-back, held-count, held-levels}
+use Rattle.sheet.proofs.InMemory.{groups-back}
 use Rattle.sheet.proofs.Claims.{sheets}
-use Rattle.work.specs.Work.{rankOf, answersOf, groupsLeft}
+use Rattle.work.specs.Work.{answersOf, groupsLeft}
 use Rattle.work.specs.Answers.{noAnswer, outcomeOf, workAnswer}
 use Rattle.work.specs.declared.answers.Outcome.{Outcome}
 use Rattle.work.specs.declared.answers.Worked.{Worked}
 use Rattle.work.proofs.Working.{answers-length, groupsAfterAll-held}
 use Rattle.work.proofs.Outcomes.{worked-tells-fault}
-use Rattle.text.specs.Text.{faultLine, commandLines, groupLines, textOf}
-use Rattle.text.specs.Laying.{OutcomeHeld}
-
--- ---- groups and ranks in memory
+use Rattle.layout.specs.Text.{faultLine, commandLines, groupLines, textOf}
+use Rattle.layout.specs.Laying.{OutcomeHeld}
 
 -- the outcome of a sheet without fault can be printed
 outcome-held : (c : Contents) → Valid c → OutcomeHeld (outcomeOf c)
 unfolding outcomeOf
 outcome-held c v = record { holds = groupsAfterAll-held c (c .entries) v; ranks-are = rw (groups-back (groupsLeft c)) }
-
--- the rank beside each group of an outcome
-pub rank-at : {o : Outcome} → OutcomeHeld o → (g : ℕ) → g < o .groups .count → (d : Group)
-    → getD (o .ranks) g 0 ≡ rankOf (levelsOf (getD (o .groups .list) g d))
-rank-at {o} h g below d =
-    ap (λ (ranks : List ℕ). getD ranks g 0) (h .ranks-are)
-    ∙ padded-map-at 64 0 rankOf (groupsIn (o .groups)) g 0 [] (omega (arith, held-count (h .holds)))
-    ∙ ap rankOf (sym (held-levels (h .holds) g below d))
 
 -- ---- the text, from an outcome in memory
 

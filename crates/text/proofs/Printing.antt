@@ -9,7 +9,7 @@ use borrow.Author.Tests.{le-leb, lt-leb}
 use Rattle.io.specs.Counts.{Counts}
 use Rattle.io.proofs.Counting.{counts}
 use Rattle.text.specs.Answers.{printAnswer, printedOn}
-use Rattle.text.specs.Laying.{Puts}
+use Rattle.layout.specs.Laying.{Puts}
 use Rattle.text.specs.declared.answers.Printed.{Printed}
 
 module _ {page laid : List ℕ} {end : ℕ} {text : List ℕ} (p : Puts page 0 laid end text) where

@@ -5,7 +5,7 @@ use Prim.Native.Nat.{ℕ, _+_}
 use lib.ListN.{take}
 use Rattle.sheet.specs.Sheet.{sheet}
 use Rattle.sheet.specs.Claims.{longestSheet, exampleSheet}
-use Rattle.text.specs.Text.{textOf}
+use Rattle.layout.specs.Text.{textOf}
 
 -- no text is longer, as `bench` says: 22 bytes for each of 1,000 commands and 146 for each of 64 groups
 abbrev pub textBound : ℕ

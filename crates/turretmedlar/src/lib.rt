@@ -10,7 +10,7 @@ ghost use Rattle.charge.specs.Answers.{readAnswer, placeAnswer, placeLevels, ca
 ghost use Rattle.rewriting.specs.Answers.{rewriteAnswer, rewriteLevels, rewriteList, RewriteOf};
 ghost use Rattle.symbols.specs.Answers.{storeAnswer, storeLevels, StoreOf, symbolAnswer};
 ghost use Rattle.sheet.specs.Sheet.{sheet as contents};
-ghost use Rattle.text.specs.Text.{textOf};
+ghost use Rattle.layout.specs.Text.{textOf};
 ghost use Rattle.text.specs.Answers.{printAnswer, printedOn};
 ghost use Rattle.text.specs.Claims.{textBound};
 use charge::answers::Pushes;

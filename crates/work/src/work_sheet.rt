@@ -5,7 +5,7 @@ ghost use Rattle.work.specs.Answers.{workAnswer};
 use super::acting::no_outcome;
 use super::acting::work;
 use super::answers::Worked;
-use sheet::read_sheet::read_sheet;
+use reader::read_sheet::read_sheet;
 
 pub fn work_sheet(bytes: &[u8]) -> Worked
     ensures { λ r. ⌜ r ≡ workAnswer (meaning.sheet (now (bytes .entry))) ⌝ }

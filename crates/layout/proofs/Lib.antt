@@ -1,0 +1,4 @@
+-- Laws that the proofs of the functions use.
+pub mod Decimal
+pub mod Putting
+pub mod Pieces

@@ -1,0 +1,87 @@
+-- `layout::lines::put_groups` meets its contract: the lines of the groups up to g were put. Assumes nothing.
+use mathlib.Core.Path.{_≡_}
+use mathlib.Core.List.{[]}
+use Prim.Native.Nat.{_-_}
+use native.Mathlib.Omega.{arith}
+use lib.ListN.{length}
+use borrow.Author.Needs.{needs}
+use Rattle.sheet.specs.Held.{groupsIn}
+use Rattle.sheet.proofs.InMemory.{held-count, held-levels}
+use Rattle.layout.specs.Text.{groupLines}
+use Rattle.layout.proofs.Putting.{Row, row-start, row-next, row-end}
+use Rattle.layout.proofs.Pieces.{groups-grow}
+use Rattle.work.proofs.Working.{group-at-held}
+use Rattle.layout.proofs.Pieces.{rank-at}
+use Rattle.layout.proofs.lines.put_groups.Statement.{statement}
+use Rattle.layout.proofs.lines.put_groups.Tie as tie
+
+abbrev Inv-loop : tie.InvT-loop
+Inv-loop text₀ from outcome groups count at₀ g₀ text at g = Row (groupLines 0) (groupsIn groups) 146 text₀ from text at g
+
+abbrev μ-loop : tie.MeasureT-loop
+μ-loop text₀ from outcome groups count at₀ g₀ text at g = count - g
+
+loop-holds : tie.Need-loop-holds Inv-loop μ-loop
+loop-holds c = row-start groups-grow _ _ _ _
+
+mul-group : tie.Need-mul-group Inv-loop μ-loop
+mul-group c = search needs
+
+element-copy-out-group : tie.Need-element-copy-out-group Inv-loop μ-loop
+element-copy-out-group c = search needs
+
+mul-put-group : tie.Need-mul-put-group Inv-loop μ-loop
+mul-put-group c = search needs
+
+element-copy-out-put-group : tie.Need-element-copy-out-put-group Inv-loop μ-loop
+element-copy-out-put-group c = search needs
+
+put-group-requires : tie.Need-put-group-requires Inv-loop μ-loop
+put-group-requires c κs =
+    let h = c .before .before .before .before .before .before .before .pre .1 in
+    let l = c .before .before .before .before .loop in
+    let few = h .holds .few in
+    let below = c .before .before .before .loop-test .taken in
+    (omega arith, omega arith, group-at-held (h .holds) (l .g) below _, rank-at h (l .g) below _)
+
+add-g : tie.Need-add-g Inv-loop μ-loop
+add-g c = search needs
+
+loop-less : tie.Need-loop-less Inv-loop μ-loop
+loop-less c = search needs
+
+loop-again : tie.Need-loop-again Inv-loop μ-loop
+loop-again c =
+    let h = c .before .before .before .before .before .before .before .before .before .before .pre .1 .holds in
+    let l = c .before .before .before .before .before .before .before .loop in
+    let below = c .before .before .before .before .before .before .loop-test .taken in
+    let put = c .before .before .put-group .ensures in
+    row-next groups-grow _ _ _ _ (l .inv) (omega (arith, held-count h)) []
+    (rw (held-levels h (l .g) below (record { n = 0; levels = [] })) at (put .0)) (put .1)
+
+same-length : tie.Need-same-length Inv-loop μ-loop
+same-length c = c .before .loop .inv .put .long
+
+returns : tie.Need-returns Inv-loop μ-loop
+returns c =
+    let s = c .before .before .before .before in
+    let few : s .args .t3 .groups .count ≡ length (groupsIn (s .args .t3 .groups)) = held-count (s .pre .1 .holds) in
+    (row-end groups-grow _ _ _ _ (c .before .loop .inv) (omega arith), omega arith)
+
+pub put-groups-spec : {M : Type 1} → statement M
+put-groups-spec =
+    tie.close
+    (tie.spec
+    Inv-loop
+    μ-loop
+    loop-holds
+    mul-group
+    element-copy-out-group
+    mul-put-group
+    element-copy-out-put-group
+    put-group-requires
+    add-g
+    loop-less
+    loop-again
+    same-length
+    returns)
