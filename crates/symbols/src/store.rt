@@ -25,8 +25,8 @@ fn unpassed(prefix: &[u8; 20], p: usize, top: u8) -> usize
     p
 }
 
-// Any prefix of p cells, at the front of its row, is stored; `cells` is the row of the levels' permutation. For other crates too: it asks for both rows.
-pub fn store_prefix(levels: &mut [u16], cells: &[u8; 20], prefix: &[u8; 20], p: usize) -> Pushes
+// Any prefix of p cells, at the front of its row, is stored; `cells` is the row of the levels' permutation.
+fn store_prefix(levels: &mut [u16], cells: &[u8; 20], prefix: &[u8; 20], p: usize) -> Pushes
     requires { ⌜ Storable (now levels) (now cells) (now prefix) p ⌝ }
     ensures answer { λ r. ⌜ r ≡ prefixPushes (now (levels .entry)) (take p (now (prefix .entry))) ⌝ }
     ensures levels_left { λ _. ⌜ now (levels .exit) ≡ prefixLevels (now (levels .entry)) (take p (now (prefix .entry))) ⌝ }
