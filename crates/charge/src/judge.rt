@@ -6,8 +6,9 @@ ghost use Rattle.theory.specs.Lists.{member};
 ghost use Rattle.theory.specs.Levels as meaning;
 ghost use Rattle.charge.specs.Counting.{callJudged};
 use permutation::reasons::CEILING;
+use permutation::reasons::SIZE;
 use permutation::reasons::TIE;
-use permutation::reasons::size_of;
+use permutation::reasons::size_within;
 
 // Is x a level at or after index `from`?
 fn stands_from(levels: &[u16], x: u16, from: usize) -> bool
@@ -42,9 +43,8 @@ pub fn tied(levels: &[u16]) -> bool
 pub fn read_number(levels: &[u16]) -> u8
     ensures { λ r. ⌜ r ≡ meaning.readNumber (now (levels .entry)) ⌝ }
 {
-    let size = size_of(levels.len());
-    if size != 0 {
-        return size;
+    if size_within(levels.len()) == 0 {
+        return SIZE;
     }
     if tied(levels) {
         return TIE;

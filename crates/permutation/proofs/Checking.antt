@@ -2,7 +2,7 @@
 use mathlib.Core.Path.{_≡_, sym, ap, _∙_}
 use mathlib.Core.Bool.{true, and-true}
 use Prim.Native.Nat.{ℕ}
-use lib.ListN.{length, drop, replicate}
+use lib.ListN.{length, take, drop, replicate}
 use Rattle.theory.specs.Refusal.{sizeOf}
 use Rattle.theory.proofs.Refusal.{refused}
 use Rattle.permutation.specs.Records.{listOf, onceEach, allZero, recordNumber}
@@ -19,9 +19,9 @@ module _ (p : Permutation) where
   check-refused e ne = refused (λ number spots. record { number = number; spots = spots }) (spotRow (listOf p)) (replicate 21 0) e ne
 
   -- n is in its range, and nothing stands past n: the pass over the names decides
-  pub check-names : sizeOf (p .n) ≡ 0 → allZero (drop (p .n) (p .cells)) ≡ true → spotted (p .n) (listOf p) ≡ checked p
+  pub check-names : sizeOf (p .n) ≡ 0 → {k : ℕ} → k ≡ p .n → allZero (drop k (p .cells)) ≡ true → spotted k (take k (p .cells)) ≡ checked p
   unfolding spotted checked recordNumber
-  check-names sized zeros = rw (sized, zeros, and-true (onceEach (p .n) (listOf p)))
+  check-names sized e zeros = rw (e, sized, rw e at zeros, and-true (onceEach (p .n) (listOf p)))
 
 -- ---- what it answered
 module _ (p : Permutation) {r : Checked} (e : r ≡ checked p) where

@@ -8,7 +8,7 @@ use borrow.Author.Tests.{eqb-true, eq-eqb}
 use lib.Dec.{eqb}
 use lib.ListN.{length, drop, replicate, length-drop, take-append-drop}
 use lib.Seq.{length-take-le, take-append-seam, drop-append-seam}
-use Rattle.theory.specs.Reasons.{done, muddle}
+use Rattle.theory.specs.Reasons.{done, size, muddle}
 use Rattle.theory.specs.Refusal.{sizeOf}
 use Rattle.theory.specs.Lists.{count}
 use Rattle.theory.specs.Permutation.{IsPermutation, row}
@@ -56,9 +56,9 @@ all-zeros (x ∷ xs) h =
 
 -- ---- why a record is refused, by the tests that tell
 module _ (p : Permutation) where
-  pub fault-size : {number : ℕ} → number ≡ sizeOf (p .n) → (number ≡ 0 → ⊥) → number ≡ recordNumber p
+  pub fault-size : size ≡ sizeOf (p .n) → size ≡ recordNumber p
   unfolding recordNumber
-  fault-size e ne = orElse-refused (sizeOf (p .n)) _ e ne
+  fault-size e = orElse-refused (sizeOf (p .n)) _ e (λ z. omega arith)
 
   module _ (sized : sizeOf (p .n) ≡ 0) where
     pub fault-muddle : (onceEach (p .n) (listOf p) && allZero (drop (p .n) (p .cells))) ≡ false → muddle ≡ recordNumber p

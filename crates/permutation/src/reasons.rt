@@ -1,6 +1,6 @@
 // Document 01, "Why a job is sent back": the eight words and their numbers, and the test of a size. A job that is done has number 0.
 ghost use mathlib.Core.Path.{_≡_};
-ghost use Rattle.theory.specs.Refusal.{sizeOf};
+ghost use Rattle.theory.specs.Refusal.{sizeWithin};
 
 // "n is below 2 or above 20": no group has that many cells
 pub const SIZE: u8 = 1;
@@ -19,15 +19,15 @@ pub const IDLE: u8 = 7;
 // an ill-formed bench sheet
 pub const SHEET: u8 = 8;
 
-// SIZE, or 0 for a number of cells that a group has. For other crates too.
-pub fn size_of(n: usize) -> u8
-    ensures { λ r. ⌜ r ≡ sizeOf n ⌝ }
+// n where a group has so many cells, and 0 where it is SIZE. For other crates too. It gives n, so that the compiler knows the range of what it gave.
+pub fn size_within(n: usize) -> usize
+    ensures { λ r. ⌜ r ≡ sizeWithin n ⌝ }
 {
     if n < 2 {
-        return SIZE;
+        return 0;
     }
     if 20 < n {
-        return SIZE;
+        return 0;
     }
-    0
+    n
 }

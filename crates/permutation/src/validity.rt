@@ -8,7 +8,8 @@ ghost use Rattle.permutation.specs.Spots.{withoutSpots, spotted, checked
 use super::answers::Permutation;
 use super::cell::wide;
 use super::reasons::MUDDLE;
-use super::reasons::size_of;
+use super::reasons::SIZE;
+use super::reasons::size_within;
 
 // SIZE, MUDDLE, or 0 for a permutation. The spots are by cell name: 20, which is no spot, for a name that stands nowhere, and zeros beside a refusal.
 pub struct Checked {
@@ -84,11 +85,10 @@ fn spots_of(cells: &[u8; 20], n: usize) -> Checked
 pub fn check(permutation: Permutation) -> Checked
     ensures { λ r. ⌜ r ≡ checked permutation ⌝ }
 {
-    let n = permutation.n;
     let cells = permutation.cells;
-    let size = size_of(n);
-    if size != 0 {
-        return without_spots(size);
+    let n = size_within(permutation.n);
+    if n == 0 {
+        return without_spots(SIZE);
     }
     if all_zero(&cells, n) {
         return spots_of(&cells, n);

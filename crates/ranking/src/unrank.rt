@@ -12,8 +12,9 @@ use permutation::answers::Permutation;
 use permutation::answers::Permuted;
 use permutation::answers::no_permutation;
 use permutation::insert::put_in;
+use permutation::reasons::SIZE;
 use permutation::reasons::VALUE;
-use permutation::reasons::size_of;
+use permutation::reasons::size_within;
 
 // How many cells stand before cell m, of m cells, where its digit is d.
 fn passed_by_digit(m: usize, d: usize) -> usize
@@ -63,17 +64,17 @@ fn filled_row(cells: [u8; 20], n: usize, rank: u64) -> [u8; 20]
 pub fn unrank(n: usize, rank: u64) -> Permuted
     ensures { λ r. ⌜ r ≡ unrankAnswer n rank ⌝ }
 {
-    let size = size_of(n);
-    if size != 0 {
-        return no_permutation(size);
+    let within = size_within(n);
+    if within == 0 {
+        return no_permutation(SIZE);
     }
-    if factorial(n) <= rank {
+    if factorial(within) <= rank {
         return no_permutation(VALUE);
     }
     let zeros = [0u8; 20];
-    let cells = filled_row(zeros, n, rank);
+    let cells = filled_row(zeros, within, rank);
     Permuted {
         number: 0,
-        permutation: Permutation { n, cells },
+        permutation: Permutation { n: within, cells },
     }
 }

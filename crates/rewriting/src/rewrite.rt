@@ -12,7 +12,8 @@ use charge::judge::read_number;
 use charge::sort::sort_cells;
 use permutation::answers::Permutation;
 use permutation::reasons::FIT;
-use permutation::reasons::size_of;
+use permutation::reasons::SIZE;
+use permutation::reasons::size_within;
 use permutation::validity::check;
 
 // SIZE, FIT, MUDDLE, TIE or 0: all but the ceiling, which is judged on the pushes. `room` is the length of the push list.
@@ -20,13 +21,11 @@ fn judge(levels: &[u16], target: Permutation, room: usize) -> u8
     ensures { λ r. ⌜ r ≡ targetNumber (now (levels .entry)) target room ⌝ }
 {
     let n = levels.len();
-    let group = size_of(n);
-    if group != 0 {
-        return group;
+    if size_within(n) == 0 {
+        return SIZE;
     }
-    let size = size_of(target.n);
-    if size != 0 {
-        return size;
+    if size_within(target.n) == 0 {
+        return SIZE;
     }
     if target.n != n {
         return FIT;

@@ -7,10 +7,9 @@ use native.Mathlib.Nat.{add-assoc, one-mul}
 use native.Mathlib.Omega.{arith}
 use borrow.Author.Tests.{le-leb, lt-leb, lt-ltb, le-ltb, eq-eqb, ne-eqb}
 use lib.ListN.{length, getD, take, drop}
-use Rattle.theory.specs.Refusal.{sizeOf}
+use Rattle.theory.specs.Reasons.{sized}
 use Rattle.theory.specs.Levels as levels
 use Rattle.theory.proofs.Cases.{by-le}
-use Rattle.theory.proofs.Refusal.{size-refused}
 use Rattle.sheet.specs.Bytes.{Fault, missized, tied, ill-formed, fault, got, after, check, many, little}
 use Rattle.sheet.specs.Sheet.{group, entry, countAt, rewriteAt, storeAt, bodyAt, command, commandRow, commands, sheet}
 use Rattle.sheet.specs.Parts.{numbers}
@@ -33,9 +32,9 @@ module _ (s : List ℕ) (at : ℕ) where
   group-end h = rw (number-short s 1 at (omega arith))
 
   module _ (n : ℕ) (here : at < length s) (is : n ≡ getD s at 0) where
-    pub group-missized : (sizeOf n ≡ 0 → ⊥) → group s at ≡ fault missized
+    pub group-missized : sized n ≡ false → group s at ≡ fault missized
     unfolding group after check
-    group-missized ne = rw (byte-there s at here, ← is, size-refused n ne .0)
+    group-missized out = rw (byte-there s at here, ← is, out)
 
   module _ (n : ℕ) (size : Sized s at n) where
     pub group-short : length s < at + 1 + 2 * n → group s at ≡ fault ill-formed

@@ -12,8 +12,9 @@ use super::little::little;
 use charge::judge::tied;
 use permutation::cell::wide;
 use permutation::reasons::SHEET;
+use permutation::reasons::SIZE;
 use permutation::reasons::TIE;
-use permutation::reasons::size_of;
+use permutation::reasons::size_within;
 
 // A group and the place after it, or the number of a fault.
 pub struct GroupRead {
@@ -55,9 +56,8 @@ pub fn read_group(s: &[u8], at: usize) -> GroupRead
         return refuse(SHEET);
     }
     let n = wide(s[at]);
-    let size = size_of(n);
-    if size != 0 {
-        return refuse(size);
+    if size_within(n) == 0 {
+        return refuse(SIZE);
     }
     let from = at + 1;
     if s.len() - from < 2 * n {

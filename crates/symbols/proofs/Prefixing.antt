@@ -8,7 +8,7 @@ use borrow.Author.Tests.{ne-eqb, leb-true, le-leb, lt-leb, ltb-true, lt-ltb, le-
 use lib.Dec.{leb, ltb}
 use lib.ListN.{length, take, drop, replicate, length-append, length-drop}
 use lib.Seq.{take-at}
-use Rattle.theory.specs.Reasons.{done, value}
+use Rattle.theory.specs.Reasons.{done, size, value}
 use Rattle.theory.specs.Refusal.{sizeOf}
 use Rattle.theory.specs.Factorial.{factorial, falling}
 use Rattle.theory.specs.Permutation.{row}
@@ -36,9 +36,9 @@ module _ (n m s : ℕ) where
   unfolding prefixAnswer
   prefix-refused e ne = rw (← e, ne-eqb _ 0 ne)
 
-  pub size-reason : {number : ℕ} → number ≡ sizeOf n → (number ≡ 0 → ⊥) → number ≡ codeNumber n m s
+  pub size-reason : size ≡ sizeOf n → size ≡ codeNumber n m s
   unfolding codeNumber
-  size-reason e ne = orElse-refused (sizeOf n) _ e ne
+  size-reason e = orElse-refused (sizeOf n) _ e (λ z. omega arith)
 
   module _ (sized : sizeOf n ≡ 0) where
     pub too-large : factorial n < m → value ≡ codeNumber n m s

@@ -11,8 +11,9 @@ use super::answers::Prefixed;
 use super::prefix_length::falling;
 use super::prefix_length::prefix_length;
 use permutation::insert::put_in;
+use permutation::reasons::SIZE;
 use permutation::reasons::VALUE;
-use permutation::reasons::size_of;
+use permutation::reasons::size_within;
 use ranking::factorials::factorial_table;
 
 // The names 1 to n go to the first n places.
@@ -72,9 +73,8 @@ fn no_prefix(number: u8) -> Prefixed
 pub fn prefix(n: usize, m: u64, symbol: u64) -> Prefixed
     ensures { λ r. ⌜ r ≡ prefixAnswer n m symbol ⌝ }
 {
-    let size = size_of(n);
-    if size != 0 {
-        return no_prefix(size);
+    if size_within(n) == 0 {
+        return no_prefix(SIZE);
     }
     let table = factorial_table();
     if table[n] < m {

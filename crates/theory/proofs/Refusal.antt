@@ -8,7 +8,7 @@ use borrow.Author.Tests.{ne-eqb, leb-true, le-leb, lt-leb}
 use lib.Dec.{leb}
 use lib.ListN.{length}
 use Rattle.theory.specs.Reasons.{done, size, tie, ceiling, sized, maxLevel}
-use Rattle.theory.specs.Refusal.{given, orElse, sizeOf}
+use Rattle.theory.specs.Refusal.{given, orElse, sizeOf, sizeWithin}
 use Rattle.theory.specs.Levels.{highest, tied, readNumber}
 use Rattle.theory.specs.CountUp.{ceilingOf}
 use Rattle.theory.proofs.Cases.{by-test, by-name}
@@ -38,9 +38,6 @@ module _ {A R : Type 0} (answer : ℕ → A → R) {why : ℕ} (a z : A) where
 pub orElse-refused : {number : ℕ} (a b : ℕ) → number ≡ a → (number ≡ 0 → ⊥) → number ≡ orElse a b
 orElse-refused {number} a b e ne = rw (← e, ne-eqb number 0 ne)
 
-pub orElse-next : {a : ℕ} (b : ℕ) → a ≡ 0 → orElse a b ≡ b
-orElse-next b e = rw e
-
 pub orElse-done : (a b : ℕ) → orElse a b ≡ 0 → (a ≡ 0) × (b ≡ 0)
 orElse-done a b h = by-name a 0 (λ q e. (q, rw e at h)) (λ ne e. absurd (ne (rw e at h)))
 
@@ -66,8 +63,18 @@ module _ (n : ℕ) where
       let s = and-eq-true-iff (leb 2 n) (leb n 20) .0 (tested (sized n) (λ z. omega arith) h) in
       (leb-true 2 n (s .0), leb-true n 20 (s .1))
 
-  pub size-refused : (sizeOf n ≡ done → ⊥) → (sized n ≡ false) × (sizeOf n ≡ size)
-  size-refused ne = by-test (sized n) (λ e. absurd (ne (rw e))) (λ e. (e, rw e))
+  -- as it is tested: k is n within the sizes
+  module _ {k : ℕ} (e : k ≡ sizeWithin n) where
+    pub within-none : k ≡ 0 → (sized n ≡ false) × (size ≡ sizeOf n)
+    within-none z =
+        by-test (sized n)
+        (λ s. absurd (omega (arith, size-range (rw s) .0, sym e ∙ z, given-done (sizeOf n) n 0 (rw s))))
+        (λ s. (s, rw s))
+
+    pub within-some : (k ≡ 0 → ⊥) → (sizeOf n ≡ done) × (k ≡ n)
+    within-some ne = by-name (sizeOf n) 0
+        (λ q t. (q, e ∙ given-done (sizeOf n) n 0 q))
+        (λ q t. absurd (ne (e ∙ given-refused (sizeOf n) n 0 q)))
 
 -- ---- levels
 

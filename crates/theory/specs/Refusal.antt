@@ -1,4 +1,4 @@
--- Refusals: what is given beside a number, which of several numbers is given, and the test of a size. Assumes nothing.
+-- Refusals: what is given beside a number, which of several numbers is given, and the size. Assumes nothing.
 use mathlib.Core.Bool.{cond}
 use Prim.Native.Nat.{ℕ}
 use lib.Dec.{eqb}
@@ -15,3 +15,7 @@ orElse number next = given number next number
 -- "n is below 2 or above 20"
 abbrev pub sizeOf : ℕ → ℕ
 sizeOf n = cond (sized n) done size
+
+-- n where a group has so many cells, and otherwise 0: what code tests a size by
+abbrev pub sizeWithin : ℕ → ℕ
+sizeWithin n = given (sizeOf n) n 0

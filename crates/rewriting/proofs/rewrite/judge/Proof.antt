@@ -3,7 +3,7 @@ use mathlib.Core.Path.{_≡_, sym, _∙_}
 use native.Mathlib.Omega.{arith}
 use lib.ListN.{length}
 use Rattle.theory.specs.Refusal.{sizeOf}
-use Rattle.theory.proofs.Refusal.{size-range}
+use Rattle.theory.proofs.Refusal.{size-range, within-none, within-some}
 use Rattle.permutation.proofs.Checking.{check-number}
 use Rattle.rewriting.proofs.Judging.{judge-group, judge-size, judge-other, judge-short, judge-muddle, judge-levels}
 use Rattle.rewriting.proofs.rewrite.judge.Statement.{statement}
@@ -11,16 +11,16 @@ use Rattle.rewriting.proofs.rewrite.judge.Tie as tie
 
 -- past the first test and past the second, neither n is out of its range
 group : (c : tie.Else1) → sizeOf (length (c .before .before .before .args .levels .now)) ≡ 0
-group c = sym (c .before .size-of .ensures) ∙ c .if1 .left
+group c = within-some (length (c .before .before .before .args .levels .now)) (c .before .size-within .ensures) (c .if1 .left) .0
 
 size : (c : tie.Else2) → sizeOf (c .before .before .before .before .before .args .target .n) ≡ 0
-size c = sym (c .before .size-of2 .ensures) ∙ c .if2 .left
+size c = within-some (c .before .before .before .before .before .args .target .n) (c .before .size-within2 .ensures) (c .if2 .left) .0
 
 returns : tie.Need-returns
-returns c = judge-group _ _ _ (c .before .size-of .ensures) (c .if1 .taken)
+returns c = judge-group _ _ _ (within-none (length (c .before .before .before .args .levels .now)) (c .before .size-within .ensures) (c .if1 .taken) .1)
 
 returns-2 : tie.Need-returns-2
-returns-2 c = judge-size _ _ _ (group (c .before .before)) (c .before .size-of2 .ensures) (c .if2 .taken)
+returns-2 c = judge-size _ _ _ (group (c .before .before)) (within-none (c .before .before .before .before .before .args .target .n) (c .before .size-within2 .ensures) (c .if2 .taken) .1)
 
 returns-3 : tie.Need-returns-3
 returns-3 c =

@@ -1,13 +1,11 @@
 -- `sheet::groups::read_group` meets its contract: at each return the tests that led there say which case of `group` holds. Assumes nothing.
 use mathlib.Core.Path.{_≡_, sym, ap, _∙_}
-use Prim.Native.Nat.{ℕ, _+_}
+use Prim.Native.Nat.{_+_}
 use native.Mathlib.Omega.{arith}
 use borrow.Author.Needs.{needs}
 use lib.ListN.{take}
 use lib.Seq.{take-at}
-use Rattle.theory.specs.Refusal.{sizeOf}
-use Rattle.theory.proofs.Refusal.{size-range, size-refused}
-use Rattle.sheet.specs.Held.{noGroup}
+use Rattle.theory.proofs.Refusal.{size-range, within-none, within-some}
 use Rattle.sheet.specs.Parts.{groupAnswer, numbers}
 use Rattle.sheet.proofs.ByteNumbers.{numbers-length}
 use Rattle.sheet.proofs.ByTests.{Sized, group-end, group-missized, group-short, group-tied, group-there}
@@ -18,7 +16,7 @@ use Rattle.sheet.proofs.groups.read_group.Tie as tie
 sized-now : (c : tie.Else2)
     → let a = c .before .before .before .before .before .before .args in Sized (a .s .now) (a .at) (c .before .before .wide .result)
 sized-now c =
-    let range = size-range _ (sym (c .before .size-of .ensures) ∙ c .if2 .left) in
+    let range = size-range _ (within-some (c .before .before .wide .result) (c .before .size-within .ensures) (c .if2 .left) .0) in
     record { here = c .before .before .before .before .if1 .left; is = c .before .before .wide .ensures; some = range .0; few = range .1 }
 
 -- the row's first n places are the levels
@@ -45,10 +43,8 @@ unfolding groupAnswer
 returns-2 c =
     let size = c .before .before in
     let wide = size .before in
-    let out : sizeOf (wide .wide .result) ≡ 0 → ⊥ = λ z. c .before .if2 .taken (size .size-of .ensures ∙ z) in
-    c .refuse2 .ensures
-    ∙ ap (λ (k : ℕ). record { number = k; group = noGroup; next = 0 }) (size .size-of .ensures ∙ size-refused (wide .wide .result) out .1)
-    ∙ ap groupAnswer (sym (group-missized _ _ _ (wide .before .before .if1 .left) (wide .wide .ensures) out))
+    let out = within-none (wide .wide .result) (size .size-within .ensures) (c .before .if2 .taken) .0 in
+    c .refuse2 .ensures ∙ ap groupAnswer (sym (group-missized _ _ _ (wide .before .before .if1 .left) (wide .wide .ensures) out))
 
 add-from : tie.Need-add-from
 add-from c = search needs
@@ -81,11 +77,11 @@ returns-4 c =
     ∙ ap groupAnswer
     (sym (group-tied _ _ _ (sized-now (levels .before .before)) (omega arith) _ (first-levels levels) (sym (tied .tied .ensures) ∙ c .before .if4 .taken)))
 
-mul-t7 : tie.Need-mul-t7
-mul-t7 c = search needs
+mul-t6 : tie.Need-mul-t6
+mul-t6 c = search needs
 
-add-t11 : tie.Need-add-t11
-add-t11 c = search needs
+add-t10 : tie.Need-add-t10
+add-t10 c = search needs
 
 returns-5 : tie.Need-returns-5
 unfolding groupAnswer
@@ -122,6 +118,6 @@ read-group-spec =
     (λ c κs. tt)
     (λ c κs. tt)
     returns-4
-    mul-t7
-    add-t11
+    mul-t6
+    add-t10
     returns-5)

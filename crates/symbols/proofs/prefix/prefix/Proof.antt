@@ -4,7 +4,7 @@ use native.Mathlib.Omega.{arith}
 use lib.ListN.{getD}
 use Rattle.theory.specs.Refusal.{sizeOf}
 use Rattle.theory.specs.Factorial.{factorial}
-use Rattle.theory.proofs.Refusal.{size-range}
+use Rattle.theory.proofs.Refusal.{size-range, within-none, within-some}
 use Rattle.ranking.proofs.Table.{table-at}
 use Rattle.symbols.proofs.Prefixing.{Coded, prefix-refused, size-reason, too-large, no-symbol, short, fits, named-long, named-first, led-long, coded-done}
 use Rattle.symbols.proofs.prefix.prefix.Statement.{statement}
@@ -12,7 +12,7 @@ use Rattle.symbols.proofs.prefix.prefix.Tie as tie
 
 -- past the first test n is in its range
 sized : (c : tie.Else1) → sizeOf (c .before .before .args .n) ≡ 0
-sized c = sym (c .before .size-of .ensures) ∙ c .if1 .left
+sized c = within-some (c .before .before .args .n) (c .before .size-within .ensures) (c .if1 .left) .0
 
 -- the largest m
 limit : (c : tie.After-factorial-table)
@@ -28,8 +28,8 @@ codes c =
 
 returns : tie.Need-returns
 returns c =
-    let ne = c .before .if1 .taken in
-    c .no-prefix .ensures ∙ prefix-refused _ _ _ (size-reason _ _ _ (c .before .before .size-of .ensures) ne) ne
+    let out = within-none (c .before .before .before .args .n) (c .before .before .size-within .ensures) (c .before .if1 .taken) .1 in
+    c .no-prefix .ensures ∙ prefix-refused _ _ _ (size-reason _ _ _ out) (λ z. omega arith)
 
 mul-if2 : tie.Need-mul-if2
 mul-if2 c = omega (arith, size-range (c .before .before .before .args .n) (sized (c .before)) .1)
