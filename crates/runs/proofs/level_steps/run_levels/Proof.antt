@@ -21,9 +21,15 @@ Inv-loop levels₀ k number counts₀ widest₀ largest₀ done₀ levels counts
 abbrev μ-loop : tie.MeasureT-loop
 μ-loop levels₀ k number counts₀ widest₀ largest₀ done₀ levels counts widest largest done = k - done
 
+-- the points before: the start, and, once they are done, the turns
+abbrev entry : tie.After-judge-call Inv-loop μ-loop → tie.Start Inv-loop μ-loop
+entry c = c .before .before .before
+
+abbrev looped : tie.After-rank Inv-loop μ-loop → tie.At-loop Inv-loop μ-loop
+looped c = c .before .before .before .before .before
+
 -- the number is that of a count-up call
-number-is : (c : tie.After-judge-call Inv-loop μ-loop)
-    → c .judge-call .result .number ≡ callNumber (c .before .before .before .args .k) (c .before .before .before .args .levels .now)
+number-is : (c : tie.After-judge-call Inv-loop μ-loop) → c .judge-call .result .number ≡ callNumber (entry c .args .k) (entry c .args .levels .now)
 unfolding callJudged
 number-is c = ap (λ (a : Call). a .number) (c .judge-call .ensures)
 
@@ -31,9 +37,7 @@ same-length : tie.Need-same-length Inv-loop μ-loop
 same-length c = search needs
 
 returns : tie.Need-returns Inv-loop μ-loop
-returns c =
-    let r = ran-levels-refused _ _ _ (number-is (c .before)) (c .if1 .taken) in
-    (r .0, (r .1, λ z. absurd (c .if1 .taken z)))
+returns c = let r = ran-levels-refused _ _ _ (number-is (c .before)) (c .if1 .taken) in (r .0, (r .1, λ z. absurd (c .if1 .taken z)))
 
 loop-holds : tie.Need-loop-holds Inv-loop μ-loop
 loop-holds c =
@@ -41,9 +45,7 @@ loop-holds c =
     (omega arith, g, levels-none _ _ g)
 
 step-levels-requires : tie.Need-step-levels-requires Inv-loop μ-loop
-step-levels-requires c κs =
-    let at = c .before .before in
-    step-granted _ _ (at .loop .inv .1) _ _ _ _ _ (at .loop .inv .2) (c .before .loop-test .taken)
+step-levels-requires c κs = let inv = c .before .before .loop .inv in step-granted _ _ (inv .1) _ _ _ _ _ (inv .2) (c .before .loop-test .taken)
 
 -- the step that a turn does
 counted : (c : tie.After-step-levels Inv-loop μ-loop)
@@ -51,9 +53,9 @@ counted : (c : tie.After-step-levels Inv-loop μ-loop)
     let cell = c .step-levels .result .cell in
     (1 ≤ cell) × (cell ≤ 20) × (getD (at .loop .counts) (cell - 1) 0 ≤ at .loop .done)
 counted c =
-    let at = c .before .before .before in
+    let inv = c .before .before .before .loop .inv in
     let e = c .step-levels .ensures in
-    step-inside _ _ (at .loop .inv .1) _ _ _ _ _ (at .loop .inv .2) _ _ _ _ (e .0) (e .1 .0) (e .1 .1 .0) (e .1 .1 .1)
+    step-inside _ _ (inv .1) _ _ _ _ _ (inv .2) _ _ _ _ (e .0) (e .1 .0) (e .1 .1 .0) (e .1 .1 .1)
 
 sub-counts : tie.Need-sub-counts Inv-loop μ-loop
 sub-counts c = counted (c .before .before) .0
@@ -78,34 +80,32 @@ loop-less c = search needs
 
 loop-again : tie.Need-loop-again Inv-loop μ-loop
 loop-again c =
-    let at = c .before .before .before .before .before .before .before in
-    let e = c .before .before .before .before .step-levels .ensures in (
+    let stepped = c .before .before .before .before in
+    let inv = stepped .before .before .before .loop .inv in
+    let e = stepped .step-levels .ensures in (
       omega arith,
-      at .loop .inv .1,
+      inv .1,
       rw (c .before .larger .ensures, c .larger2 .ensures)
-          (levels-more _ _ (at .loop .inv .1) _ _ _ _ _ (at .loop .inv .2) _ _ _ _ (e .0) (e .1 .0) (e .1 .1 .0) (e .1 .1 .1)),
+          (levels-more _ _ (inv .1) _ _ _ _ _ (inv .2) _ _ _ _ (e .0) (e .1 .0) (e .1 .1 .0) (e .1 .1 .1)),
     )
 
 read-requires : tie.Need-read-requires Inv-loop μ-loop
 read-requires c κs = search needs
 
 same-length-2 : tie.Need-same-length-2 Inv-loop μ-loop
-same-length-2 c =
-    let at = c .before .before .before .before .before in
-    levels-long _ _ (at .loop .inv .1) _ _ _ _ _ (at .loop .inv .2)
+same-length-2 c = let inv = looped c .loop .inv in levels-long _ _ (inv .1) _ _ _ _ _ (inv .2)
 
 returns-2 : tie.Need-returns-2 Inv-loop μ-loop
 returns-2 c =
-    let at = c .before .before .before .before .before in
-    let g = at .loop .inv .1 in
-    let L = at .before .before .before .before .before .args .levels .now in
-    let k = at .before .before .before .before .before .args .k in
-    let all : at .loop .done ≡ k = omega (arith, at .loop .inv .0) in
-    let v = subst (λ (j : ℕ). RunningLevels L j (at .loop .levels) (at .loop .counts) (at .loop .widest) (at .loop .largest)) all (at .loop .inv .2) in
+    let l = looped c .loop in
+    let g = l .inv .1 in
+    let a = entry (looped c .before .before) .args in
+    let all : l .done ≡ a .k = omega (arith, l .inv .0) in
+    let v = subst (λ (j : ℕ). RunningLevels (a .levels .now) j (l .levels) (l .counts) (l .widest) (l .largest)) all (l .inv .2) in
     let stands = ap (λ (a : Permuted). a .permutation) (c .before .before .read .ensures) in
     let ranks = ap (λ (a : Ranked). a .rank) (c .rank .ensures) in
     rw all
-    (ran-levels-left L k g _ _ _ _ v _ _ stands ranks, (levels-left L k g _ _ _ _ v _ _ stands ranks, λ z. levels-of L k g _ _ _ _ v _ _ stands ranks))
+    (ran-levels-left _ _ g _ _ _ _ v _ _ stands ranks, (levels-left _ _ g _ _ _ _ v _ _ stands ranks, λ z. levels-of _ _ g _ _ _ _ v _ _ stands ranks))
 
 pub run-levels-spec : {M : Type 1} → statement M
 run-levels-spec =

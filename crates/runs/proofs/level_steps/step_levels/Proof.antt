@@ -12,35 +12,37 @@ use Rattle.runs.proofs.OneStep.{place-bounds, cell-inside, StepDone, st
 use Rattle.runs.proofs.level_steps.step_levels.Statement.{statement}
 use Rattle.runs.proofs.level_steps.step_levels.Tie as tie
 
+-- the points before: the start, the cell chosen, its push
+abbrev entry : tie.After-successor → tie.Start
+entry c = c .before .before .before .before .before
+
+abbrev chosen : tie.After-push-level → tie.After-wide
+chosen c = c .before .before .before
+
+abbrev pushing : tie.After-lowest → tie.After-push-level
+pushing c = c .before .before .before .before .before .before .before
+
 -- what was read, and the place that its successor answers
-read-is : (c : tie.After-successor)
-    → c .before .before .read .result .permutation ≡ readAnswer (c .before .before .before .before .before .args .levels .now) .permutation
+read-is : (c : tie.After-successor) → c .before .before .read .result .permutation ≡ readAnswer (entry c .args .levels .now) .permutation
 read-is c = ap (λ (a : Permuted). a .permutation) (c .before .before .read .ensures)
 
 place-is : (c : tie.After-successor) → c .successor .result .place ≡ successorAnswer (c .before .before .read .result .permutation) .place
 place-is c = ap (λ (a : Placed). a .place) (c .successor .ensures)
 
 bounds : (c : tie.After-successor)
-    → let place = c .successor .result .place in
-    (2 ≤ place) × (place ≤ length (c .before .before .before .before .before .args .levels .now)) × (place ≤ 20)
-bounds c = place-bounds _ (c .before .before .before .before .before .pre) _ _ (read-is c) (place-is c)
+    → let place = c .successor .result .place in (2 ≤ place) × (place ≤ length (entry c .args .levels .now)) × (place ≤ 20)
+bounds c = place-bounds _ (entry c .pre) _ _ (read-is c) (place-is c)
 
 -- the cell that stands there
-inside : (c : tie.After-wide)
-    → (1 ≤ c .wide .result) × (c .wide .result ≤ length (c .before .before .before .before .before .before .before .args .levels .now))
-inside c =
-    let asked = c .before .before in
-    cell-inside _ (asked .before .before .before .before .before .pre) _ _ (read-is asked) (place-is asked) _ (c .wide .ensures)
+inside : (c : tie.After-wide) → (1 ≤ c .wide .result) × (c .wide .result ≤ length (entry (c .before .before) .args .levels .now))
+inside c = let asked = c .before .before in cell-inside _ (entry asked .pre) _ _ (read-is asked) (place-is asked) _ (c .wide .ensures)
 
 -- its push
 pushed : (c : tie.After-push-level)
-    → let chosen = c .before .before .before in
-    StepDone (chosen .before .before .before .before .before .before .before .args .levels .now) (chosen .wide .result) (c .push-level .last .0)
+    → StepDone (entry (chosen c .before .before) .args .levels .now) (chosen c .wide .result) (c .push-level .last .0)
 pushed c =
-    let chosen = c .before .before .before in
-    let asked = chosen .before .before in
-    step-done _ (asked .before .before .before .before .before .pre) _ _ (read-is asked) (place-is asked) _ (chosen .wide .ensures) _
-    (c .push-level .ensures .1)
+    let asked = chosen c .before .before in
+    step-done _ (entry asked .pre) _ _ (read-is asked) (place-is asked) _ (chosen c .wide .ensures) _ (c .push-level .ensures .1)
 
 read-requires : tie.Need-read-requires
 read-requires c κs = search needs
@@ -61,31 +63,29 @@ slice-read-before : tie.Need-slice-read-before
 slice-read-before c = let b = inside (c .before) in omega arith
 
 sub-after : tie.Need-sub-after
-sub-after c = inside (c .before .before .before .before .before) .0
+sub-after c = inside (chosen (c .before .before)) .0
 
 mul-after : tie.Need-mul-after
-mul-after c = omega (arith, inside (c .before .before .before .before .before) .1)
+mul-after c = omega (arith, inside (chosen (c .before .before)) .1)
 
 slice-read-after : tie.Need-slice-read-after
 slice-read-after c =
-    let d = pushed (c .before .before .before) in
-    let b = inside (c .before .before .before .before .before .before) in
-    omega (arith, d .long, b .0, b .1)
+    let at = c .before .before .before in
+    let b = inside (chosen at) in
+    omega (arith, pushed at .long, b .0, b .1)
 
 sub-t18 : tie.Need-sub-t18
 sub-t18 c = pushed (c .before .before .before) .raises
 
 sub-t29 : tie.Need-sub-t29
-sub-t29 c =
-    let d = pushed (c .before .before .before .before .before .before .before) in
-    omega (arith, d .bottom≤top, c .lowest .ensures, c .before .before .highest .ensures)
+sub-t29 c = omega (arith, pushed (pushing c) .bottom≤top, c .lowest .ensures, c .before .before .highest .ensures)
 
 same-length : tie.Need-same-length
-same-length c = pushed (c .before .before .before .before .before .before .before) .long
+same-length c = pushed (pushing c) .long
 
 returns : tie.Need-returns
 returns c =
-    let d = pushed (c .before .before .before .before .before .before .before) in
+    let d = pushed (pushing c) in
     (d .cell-is, (d .raise-is, (ap₂ _-_ (c .before .before .highest .ensures) (c .lowest .ensures), d .levels-are)))
 
 pub step-levels-spec : {M : Type 1} → statement M

@@ -45,23 +45,22 @@ next-requires c κs = search needs
 array-read-wide : tie.Need-array-read-wide Inv-loop μ-loop
 array-read-wide c = search needs
 
--- the step that a turn does
+-- the point before a turn
+abbrev looped : tie.After-wide Inv-loop μ-loop → tie.At-loop Inv-loop μ-loop
+looped c = c .before .before .before .before .before .before
+
+-- the step that the turn does
 counted : (c : tie.After-wide Inv-loop μ-loop)
-    → let at = c .before .before .before .before .before .before in
-    let p = at .before .before .before .args .permutation in
-    Tallied (p .n) (listOf p) (at .loop .done) (at .loop .counts) (c .wide .result)
+    → let p = looped c .before .before .before .args .permutation in
+    Tallied (p .n) (listOf p) (looped c .loop .done) (looped c .loop .counts) (c .wide .result)
 counted c =
-    let at = c .before .before .before .before .before .before in
-    let p = at .before .before .before .args .permutation in
-    step-tallied p (at .loop .inv .1) (at .loop .done) (at .loop .current) (at .loop .counts) (at .loop .inv .2) _
+    let l = looped c .loop in
+    step-tallied (looped c .before .before .before .args .permutation) (l .inv .1) (l .done) (l .current) (l .counts) (l .inv .2) _
     (ap (λ (a : Placed). a .place) (c .before .before .before .before .successor2 .ensures)) _
     (ap (λ (a : Permuted). a .permutation) (c .before .before .before .push .ensures)) _ (c .wide .ensures)
 
 in-row : (c : tie.After-wide Inv-loop μ-loop) → (1 ≤ c .wide .result) × (c .wide .result ≤ 20)
-in-row c =
-    let at = c .before .before .before .before .before .before in
-    let t = counted c in
-    (t .low, omega (arith, t .high, at .loop .inv .1 .many))
+in-row c = (counted c .low, omega (arith, counted c .high, looped c .loop .inv .1 .many))
 
 sub-counts : tie.Need-sub-counts Inv-loop μ-loop
 sub-counts c = in-row c .0
@@ -86,11 +85,10 @@ loop-less c = search needs
 
 loop-again : tie.Need-loop-again Inv-loop μ-loop
 loop-again c =
-    let at = c .before .before .before .before .before .before in
-    let p = at .before .before .before .args .permutation in (
+    let l = looped c .loop in (
       omega arith,
-      at .loop .inv .1,
-      running-more p (at .loop .inv .1) (at .loop .done) (at .loop .current) (at .loop .counts) (at .loop .inv .2) _
+      l .inv .1,
+      running-more (looped c .before .before .before .args .permutation) (l .inv .1) (l .done) (l .current) (l .counts) (l .inv .2) _
           (ap (λ (a : Placed). a .place) (c .before .before .before .before .successor2 .ensures)) _
           (ap (λ (a : Permuted). a .permutation) (c .before .before .before .push .ensures)) _ (c .wide .ensures),
     )
