@@ -15,16 +15,18 @@ sized : (c : tie.Else1) → sizeOf (c .before .before .args .n) ≡ 0
 sized c = within-some (c .before .before .args .n) (c .before .size-within .ensures) (c .if1 .left) .0
 
 -- the largest m
-limit : (c : tie.After-factorial-table)
-    → let n = c .before .before .before .args .n in getD (c .factorial-table .result) n 0 ≡ factorial n
+limit : (c : tie.After-factorial-table) → let n = c .before .before .before .args .n in getD (c .factorial-table .result) n 0 ≡ factorial n
 limit c = table-at (c .factorial-table .ensures) (c .before .before .before .args .n) (size-range _ (sized (c .before)) .1)
 
--- past the tests
-codes : (c : tie.Else3) → let a = c .before .before .before .before .before .args in Coded (a .n) (a .m) (a .symbol)
+-- past the tests, and so once the length is counted
+codes : (c : tie.After-table) → let a = c .before .before .before .before .before .before .args in Coded (a .n) (a .m) (a .symbol)
 codes c =
-    let tabled = c .before .before in
+    let tabled = c .before .before .before in
     let range = size-range _ (sized (tabled .before)) in
-    record { few = range .0; many = range .1; most = omega (arith, c .before .if2 .left, limit tabled); below = omega (arith, c .if3 .left) }
+    record { few = range .0; many = range .1; most = omega (arith, limit tabled); below = omega arith }
+
+abbrev measured : tie.After-cells → tie.After-prefix-length
+measured c = c .before .before .before
 
 returns : tie.Need-returns
 returns c =
@@ -49,39 +51,37 @@ returns-3 c =
     c .no-prefix3 .ensures ∙ prefix-refused _ _ _ (no-symbol _ _ _ (sized (tabled .before)) (omega (arith, c .before .if3 .taken))) (λ z. omega arith)
 
 prefix-length-requires : tie.Need-prefix-length-requires
-prefix-length-requires c κs =
-    let v = codes (c .before) in
-    (c .before .before .before .factorial-table .ensures, v .many, omega (arith, v .below), v .most)
+prefix-length-requires c κs = let v = codes c in (c .before .before .before .factorial-table .ensures, v .many, omega (arith, v .below), v .most)
 
 falling-requires : tie.Need-falling-requires
 falling-requires c κs =
-    let v = codes (c .before .before .before) in
-    (c .before .before .before .before .before .factorial-table .ensures, v .many, short v (c .before .prefix-length .ensures))
+    let at = c .before .before in
+    (at .before .before .before .factorial-table .ensures, codes at .many, short (codes at) (c .before .prefix-length .ensures))
 
 name-cells-requires : tie.Need-name-cells-requires
-name-cells-requires c κs = (codes (c .before .before .before .before .before) .many, refl)
+name-cells-requires c κs = (codes (measured c .before) .many, refl)
 
 choose-requires : tie.Need-choose-requires
 choose-requires c κs =
     let counted = c .before .before .before in
-    let measured = counted .before .before in
-    let v = codes (measured .before .before) in
-    let e = measured .prefix-length .ensures in
+    let at = measured (c .before .before) in
+    let v = codes (at .before) in
+    let e = at .prefix-length .ensures in
     let named = c .before .name-cells .ensures in
     (v .many, short v e, counted .falling .ensures, rw (counted .falling .ensures) (fits v e), named-long v e named, named-first v e named)
 
 clear-from-requires : tie.Need-clear-from-requires
 clear-from-requires c κs =
-    let measured = c .before .before .before .before .before .before .before in
-    let v = codes (measured .before .before) in
-    let e = measured .prefix-length .ensures in
+    let at = measured (c .before .before .before .before) in
+    let v = codes (at .before) in
+    let e = at .prefix-length .ensures in
     (omega (arith, short v e, v .many), led-long v e (c .before .before .before .name-cells .ensures) (c .before .choose .ensures))
 
 returns-4 : tie.Need-returns-4
 returns-4 c =
-    let measured = c .before .before .before .before .before .before .before .before in
-    coded-done (codes (measured .before .before)) (measured .prefix-length .ensures) (c .before .before .before .before .name-cells .ensures)
-    (c .before .before .choose .ensures) (c .clear-from .ensures)
+    let named = c .before .before .before .before in
+    let at = measured (named .before) in
+    coded-done (codes (at .before)) (at .prefix-length .ensures) (named .name-cells .ensures) (c .before .before .choose .ensures) (c .clear-from .ensures)
 
 pub prefix-spec : {M : Type 1} → statement M
 prefix-spec =

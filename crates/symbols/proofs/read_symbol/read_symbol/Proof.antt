@@ -21,20 +21,26 @@ read-requires c κs = search needs
 returns : tie.Need-returns
 returns c = symbol-refused _ _ (symbol-fault _ _ (number-is _ (c .before .before .read .ensures)) (c .if1 .taken)) (c .if1 .taken)
 
--- what each test has shown: a permutation was read, and m is not 0, and not above n!
-read : (c : tie.Else1) → Standing (c .before .before .before .before .args .levels .now) (c .before .before .read .result)
+-- the points before: the start, past the first test, and where the row was checked
+abbrev entry : tie.Else1 → tie.Start
+entry c = c .before .before .before .before
+
+abbrev past : tie.After-check → tie.Else1
+past c = c .before .before .before .before .before
+
+abbrev checked : tie.After-table → tie.After-check
+checked c = c .before .before .before .before
+
+-- what the tests have shown: a permutation was read, and m is not 0, and not above n!
+read : (c : tie.Else1) → Standing (entry c .args .levels .now) (c .before .before .read .result)
 read c = standing _ (c .before .before .read .ensures) (c .if1 .left)
 
-low : (c : tie.Else2) → 1 ≤ c .before .before .before .before .before .args .m
-low c = omega (arith, c .if2 .left)
-
 limit : (c : tie.After-factorial-table)
-    → let n = length (c .before .before .before .before .before .before .args .levels .now) in getD (c .factorial-table .result) n 0 ≡ factorial n
+    → let n = length (entry (c .before .before) .args .levels .now) in getD (c .factorial-table .result) n 0 ≡ factorial n
 limit c = table-at (c .factorial-table .ensures) _ (read (c .before .before) .levels .many)
 
-high : (c : tie.Else3)
-    → let entry = c .before .before .before .before .before .before .before in entry .args .m ≤ factorial (length (entry .args .levels .now))
-high c = omega (arith, c .if3 .left, limit (c .before))
+range : (c : tie.After-check) → let a = entry (past c) .args in (1 ≤ a .m) × (a .m ≤ factorial (length (a .levels .now)))
+range c = let high = c .before .before in (omega (arith, high .before .before .if2 .left), omega (arith, high .if3 .left, limit (high .before)))
 
 returns-2 : tie.Need-returns-2
 returns-2 c = symbol-refused _ _ (symbol-none _ _ (read (c .before) .levels) (omega (arith, c .if2 .taken))) (eqb-false 5 0 refl)
@@ -47,40 +53,32 @@ array-read-if3 c = omega (arith, read (c .before .before) .levels .many)
 
 returns-3 : tie.Need-returns-3
 returns-3 c =
-    symbol-refused _ _
-    (symbol-many _ _ (read (c .before .before .before) .levels) (low (c .before .before)) (omega (arith, c .if3 .taken, limit (c .before))))
-    (eqb-false 5 0 refl)
+    symbol-refused _ _ (symbol-many _ _ (read (c .before .before .before) .levels) (omega arith) (omega (arith, limit (c .before)))) (eqb-false 5 0 refl)
 
 prefix-length-requires : tie.Need-prefix-length-requires
 prefix-length-requires c κs =
-    let past = c .before .before .before .before .before .before in
-    (past .before .factorial-table .ensures, read (past .before .before .before) .levels .many, low (past .before .before), high past)
+    let m = range (checked c) in
+    (checked c .before .before .before .factorial-table .ensures, read (past (checked c)) .levels .many, m .0, m .1)
 
 prefix-number-requires : tie.Need-prefix-number-requires
-prefix-number-requires c κs =
-    let past = c .before .before .before .before .before .before .before in
-    row-spots (read (past .before .before .before)) (c .before .before .before .before .before .check .ensures) (c .prefix-length .ensures) (high past)
+prefix-number-requires c κs = let at = checked (c .before) in row-spots (read (past at)) (at .check .ensures) (c .prefix-length .ensures) (range at .1)
 
 -- past the tests the prefix's number is the symbol
 found : (c : tie.After-prefix-number)
-    → let entry = c .before .before .before .before .before .before .before .before .before .before .before .before .before .before .before in
-    c .prefix-number .result ≡ symbolOf (length (entry .args .levels .now)) (entry .args .m) (permutationOf (entry .args .levels .now))
-found c =
-    symbol-is (read (c .before .before .before .before .before .before .before .before .before .before .before)) _ (c .prefix-number .ensures)
-    (c .before .prefix-length .ensures)
+    → let a = entry (past (checked (c .before .before))) .args in
+    c .prefix-number .result ≡ symbolOf (length (a .levels .now)) (a .m) (permutationOf (a .levels .now))
+found c = symbol-is (read (past (checked (c .before .before)))) _ (c .prefix-number .ensures) (c .before .prefix-length .ensures)
 
 returns-4 : tie.Need-returns-4
 returns-4 c =
-    let past = c .before .before .before .before .before .before .before .before .before in
+    let at = checked (c .before .before .before) in
     symbol-refused _ _
-    (symbol-idle _ _ (read (past .before .before .before) .levels) (low (past .before .before)) (high past)
-    (omega (arith, c .if4 .taken, found (c .before))))
-    (eqb-false 7 0 refl)
+    (symbol-idle _ _ (read (past at) .levels) (range at .0) (range at .1) (omega (arith, c .if4 .taken, found (c .before)))) (eqb-false 7 0 refl)
 
 returns-5 : tie.Need-returns-5
 returns-5 c =
-    let past = c .before .before .before .before .before .before .before .before .before in
-    symbol-done _ _ (read (past .before .before .before) .levels) (low (past .before .before)) (high past) (found (c .before)) (omega (arith, c .if4 .left))
+    let at = checked (c .before .before .before) in
+    symbol-done _ _ (read (past at) .levels) (range at .0) (range at .1) (found (c .before)) (omega (arith, c .if4 .left))
 
 pub read-symbol-spec : {M : Type 1} → statement M
 read-symbol-spec =

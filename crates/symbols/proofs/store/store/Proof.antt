@@ -5,17 +5,20 @@ use Rattle.symbols.proofs.Storing.{Found, found-done, found-storable, f
 use Rattle.symbols.proofs.store.store.Statement.{statement}
 use Rattle.symbols.proofs.store.store.Tie as tie
 
--- past the first test, the levels have a permutation
-read : (c : tie.Else1) → Standing (c .before .before .before .before .before .args .levels .now) (c .before .before .read .result)
+-- past the first test, the levels have a permutation; past the second, the prefix is found, and stored
+abbrev entry : tie.Else1 → tie.Start
+entry c = c .before .before .before .before .before
+
+read : (c : tie.Else1) → Standing (entry c .args .levels .now) (c .before .before .read .result)
 read c = standing _ (c .before .before .read .ensures) (c .if1 .left)
 
--- past the second, the permutation is read and the prefix found
 found-now : (c : tie.Else2)
-    → let entry = c .before .before .before .before .before .before .before .before in
-    Found (entry .args .levels .now) (entry .args .m) (entry .args .symbol) (c .before .before .before .before .before .read .result)
-    (c .before .before .prefix .result)
-found-now c =
-    found-done (read (c .before .before .before)) (c .before .before .prefix .ensures) (c .if2 .left)
+    → let at = c .before .before .before in
+    Found (entry at .args .levels .now) (entry at .args .m) (entry at .args .symbol) (at .before .before .read .result) (c .before .before .prefix .result)
+found-now c = found-done (read (c .before .before .before)) (c .before .before .prefix .ensures) (c .if2 .left)
+
+abbrev found : tie.After-to2 → tie.Else2
+found c = c .before .before .before .before .before
 
 read-requires : tie.Need-read-requires
 read-requires c κs = search needs
@@ -33,20 +36,17 @@ same-length-2 c = search needs
 
 returns-2 : tie.Need-returns-2
 returns-2 c =
-    let found = c .before .before .before in
-    let ne = c .before .if2 .taken in
-    store-refused _ _ _ (c .no-pushes2 .ensures) (store-value _ _ _ (read (found .before) .levels) (found .prefix .ensures) ne) ne
+    let ne = c .before .if2 .taken in let at = c .before .before .before in
+    store-refused _ _ _ (c .no-pushes2 .ensures) (store-value _ _ _ (read (at .before) .levels) (at .prefix .ensures) ne) ne
 
 store-prefix-requires : tie.Need-store-prefix-requires
-store-prefix-requires c κs = found-storable (found-now (c .before .before .before .before .before))
+store-prefix-requires c κs = found-storable (found-now (found c))
 
 same-length-3 : tie.Need-same-length-3
 same-length-3 c = search needs
 
 returns-3 : tie.Need-returns-3
-returns-3 c =
-    let done = c .before .before in
-    found-stored (found-now (done .before .before .before .before .before .before)) (done .store-prefix .ensures)
+returns-3 c = found-stored (found-now (found (c .before .before .before))) (c .before .before .store-prefix .ensures)
 
 pub store-spec : {M : Type 1} → statement M
 store-spec =
