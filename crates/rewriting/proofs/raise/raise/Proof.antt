@@ -12,9 +12,12 @@ use Rattle.rewriting.specs.Raising.{raised}
 use Rattle.rewriting.proofs.raise.raise.Statement.{statement}
 use Rattle.rewriting.proofs.raise.raise.Tie as tie
 
--- past the test, there is room
+-- past the test, there is room, and then the pushes are made
 room : (c : tie.Else1) → c .before .highest .result + c .before .before .before .before .args .r ≤ maxLevel
 room c = omega (arith, c .if1 .left, c .before .highest .ok)
+
+abbrev past : tie.After-slice-known2 → tie.Else1
+past c = c .before .before .before .before
 
 cast-if1 : tie.Need-cast-if1
 cast-if1 c = search needs
@@ -30,17 +33,15 @@ unfolding raised
 returns c =
     let at = c .before .before in
     let a = at .before .before .before .args in
-    let L = a .levels .now in
-    pushes-refused (a .r) L (pushLevels (reverse (take (a .r) (a .cells .now))) L) (c .no-pushes .ensures)
-    (ceiling-refused L (a .r) (omega (arith, c .before .if1 .taken, at .highest .ensures))) (λ z. omega arith)
+    pushes-refused (a .r) (a .levels .now) (pushLevels (reverse (take (a .r) (a .cells .now))) (a .levels .now)) (c .no-pushes .ensures)
+    (ceiling-refused (a .levels .now) (a .r) (omega (arith, c .before .if1 .taken, at .highest .ensures))) (λ z. omega arith)
 
 push-first-requires : tie.Need-push-first-requires
 push-first-requires c κs =
-    let at = c .before in
-    record { pushable = at .before .before .before .before .pre; top-is = at .before .highest .ensures; room = room at }
+    let at = c .before in record { pushable = at .before .before .before .before .pre; top-is = at .before .highest .ensures; room = room at }
 
 cast-done-pushes : tie.Need-cast-done-pushes
-cast-done-pushes c = omega (arith, c .before .before .before .before .before .before .before .before .pre .few)
+cast-done-pushes c = omega (arith, past c .before .before .before .before .pre .few)
 
 same-length-2 : tie.Need-same-length-2
 same-length-2 c = search needs
@@ -48,11 +49,10 @@ same-length-2 c = search needs
 returns-2 : tie.Need-returns-2
 unfolding raised
 returns-2 c =
-    let past = c .before .before .before .before .before in
-    let a = past .before .before .before .before .args in
-    let L = a .levels .now in
-    pushes-done (a .r) L (pushLevels (reverse (take (a .r) (a .cells .now))) L) (c .done-pushes .ensures)
-    (ceiling-done L (a .r) (omega (arith, past .before .highest .ensures, room past))) (c .before .before .before .push-first .ensures)
+    let at = past (c .before) in
+    let a = at .before .before .before .before .args in
+    pushes-done (a .r) (a .levels .now) (pushLevels (reverse (take (a .r) (a .cells .now))) (a .levels .now)) (c .done-pushes .ensures)
+    (ceiling-done (a .levels .now) (a .r) (omega (arith, at .before .highest .ensures, room at))) (c .before .before .before .push-first .ensures)
 
 pub raise-spec : {M : Type 1} → statement M
 raise-spec =

@@ -23,9 +23,7 @@ returns-2 : tie.Need-returns-2
 returns-2 c = judge-size _ _ _ (group (c .before .before)) (within-none (c .before .before .before .before .before .args .target .n) (c .before .size-within2 .ensures) (c .if2 .taken) .1)
 
 returns-3 : tie.Need-returns-3
-returns-3 c =
-    let past = c .before .before in
-    judge-other _ _ _ (group (past .before .before)) (size past) (c .if3 .taken)
+returns-3 c = let past = c .before .before in judge-other _ _ _ (group (past .before .before)) (size past) (c .if3 .taken)
 
 sub-if4 : tie.Need-sub-if4
 sub-if4 c =
@@ -39,8 +37,9 @@ returns-4 c =
 
 returns-5 : tie.Need-returns-5
 returns-5 c =
-    let past = c .before .before .before .before .before in
-    judge-muddle _ _ _ (group (past .before .before)) (size past) (c .before .before .before .if3 .left) (c .before .before .if4 .left)
+    let tested = c .before .before in
+    let past = tested .before .before .before in
+    judge-muddle _ _ _ (group (past .before .before)) (size past) (tested .before .if3 .left) (tested .if4 .left)
     (check-number _ (c .before .check .ensures)) (c .if5 .taken)
 
 returns-6 : tie.Need-returns-6
