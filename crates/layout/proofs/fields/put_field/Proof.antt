@@ -36,18 +36,18 @@ copy-requires : tie.Need-copy-requires
 copy-requires c κs = omega (arith, ap length (made (c .before .before)))
 
 add-result : tie.Need-add-result
-add-result c = let n = ap length (made (c .before .before .before .before .before)) in search needs
+add-result c = let at = c .before .before in let n = ap length (made (at .before .before .before)) in search needs
 
 same-length : tie.Need-same-length
 same-length c = search needs
 
 returns : tie.Need-returns
 returns c =
-    let d = c .before .before .before .before .before in
+    let at = c .before .before in
+    let d = at .before .before .before in
     let p = d .before .before .before .before .put-byte in
-    let copied = rw (made d) at (c .before .before .copy .ensures .1) in
-    puts-then (p .ensures)
-    (puts-copied (p .last .0) (p .result) (decimal _) _ _ copied (search needs) (search needs)
+    let copied = rw (made d) at (at .copy .ensures .1) in
+    puts-then (p .ensures) (puts-copied (p .last .0) (p .result) (decimal _) _ _ copied (search needs) (search needs)
     (omega (arith, ap length (made d), d .decimal .ensures .0 .1)))
 
 pub put-field-spec : {M : Type 1} → statement M

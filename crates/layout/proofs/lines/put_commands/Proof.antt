@@ -38,9 +38,9 @@ loop-less c = search needs
 
 loop-again : tie.Need-loop-again Inv-loop μ-loop
 loop-again c =
-    let inv = c .before .before .before .before .before .before .loop .inv .1 in
-    let put = c .before .before .put-command .ensures in
-    (search needs, row-next commands-grow _ _ _ _ inv (omega arith) _ (put .0) (put .1))
+    let put = c .before .before in
+    let inv = put .before .before .before .before .loop .inv .1 in
+    (search needs, row-next commands-grow _ _ _ _ inv (omega arith) _ (put .put-command .ensures .0) (put .put-command .ensures .1))
 
 same-length : tie.Need-same-length Inv-loop μ-loop
 same-length c = c .before .loop .inv .1 .put .long

@@ -14,39 +14,44 @@ use Rattle.work.proofs.Working.{group-size, group-few}
 use Rattle.layout.proofs.lines.put_group.Statement.{statement}
 use Rattle.layout.proofs.lines.put_group.Tie as tie
 
+-- from each put the one before: the letter, the group's number, its rank
+abbrev letter : tie.After-put-field → tie.After-put-byte
+letter c = c .before .before .before .before
+
+abbrev number : tie.After-put-field2 → tie.After-put-field
+number c = c .before .before .before .before
+
+abbrev rank : tie.After-put-levels → tie.After-put-field2
+rank c = c .before .before .before .before .before
+
 -- the first two fields have 3 and 21 bytes at most, and there are as many levels as the group says, twenty at most
-sizes : (s : tie.Start)
-    → (length (field (s .args .g)) ≤ 3) × (length (field (s .args .rank)) ≤ 21)
-    × (s .args .group .n ≡ length (levelsOf (s .args .group))) × (s .args .group .n ≤ 20)
-    × (length (s .args .group .levels) ≡ 20)
-sizes s = (
-  field-short (s .args .g) 1 (omega arith),
-  field-short (s .args .rank) 19 (omega arith),
-  group-size (s .pre .2),
-  group-few (s .pre .2),
-  search needs,
-)
+sizes : (c : tie.After-put-byte)
+    → let a = c .before .before .before .before .args in (length (field (a .g)) ≤ 3) × (length (field (a .rank)) ≤ 21)
+    × (a .group .n ≡ length (levelsOf (a .group))) × (a .group .n ≤ 20) × (length (a .group .levels) ≡ 20)
+sizes c =
+    let held = c .before .before .before .before .pre .2 in
+    (field-short _ 1 (omega arith), field-short _ 19 (omega arith), group-size held, group-few held, search needs)
 
 put-byte-requires : tie.Need-put-byte-requires
 put-byte-requires c κs = search needs
 
 put-field-requires : tie.Need-put-field-requires
-put-field-requires c κs = let w = sizes (c .before .before .before .before .before .before .before) in omega arith
+put-field-requires c κs = let w = sizes (c .before .before .before) in omega arith
 
 put-field-requires-2 : tie.Need-put-field-requires-2
-put-field-requires-2 c κs = let w = sizes (c .before .before .before .before .before .before .before .before .before .before .before) in omega arith
+put-field-requires-2 c κs = let w = sizes (letter (c .before .before .before)) in omega arith
 
 array-share-prefix-levels : tie.Need-array-share-prefix-levels
-array-share-prefix-levels c = let w = sizes (c .before .before .before .before .before .before .before .before .before .before .before .before .before .before .before) in search needs
+array-share-prefix-levels c = let w = sizes (letter (number (c .before .before .before))) in search needs
 
 slice-aggregate-put-levels : tie.Need-slice-aggregate-put-levels
-slice-aggregate-put-levels c = let w = sizes (c .before .before .before .before .before .before .before .before .before .before .before .before .before .before .before .before) in search needs
+slice-aggregate-put-levels c = let w = sizes (letter (number (c .before .before .before .before))) in search needs
 
 put-levels-requires : tie.Need-put-levels-requires
-put-levels-requires c κs = let w = sizes (c .before .before .before .before .before .before .before .before .before .before .before .before .before .before .before .before) in omega arith
+put-levels-requires c κs = let w = sizes (letter (number (c .before .before .before .before))) in omega arith
 
 put-byte-requires-2 : tie.Need-put-byte-requires-2
-put-byte-requires-2 c κs = let w = sizes (c .before .before .before .before .before .before .before .before .before .before .before .before .before .before .before .before .before .before .before .before) in omega arith
+put-byte-requires-2 c κs = let w = sizes (letter (number (rank (c .before .before .before)))) in omega arith
 
 same-length : tie.Need-same-length
 same-length c = search needs
@@ -54,18 +59,13 @@ same-length c = search needs
 returns : tie.Need-returns
 unfolding groupLine
 returns c =
-    let levels = c .before .before .before .before .before .before in
-    let rank = levels .before .before .before .before .before in
-    let number = rank .before .before .before .before in
-    let letter = number .before .before .before .before in
-    let s = letter .before .before .before .before in
-    let w = sizes s in (
-      rw (← s .pre .3)
-          (puts-line (s .args .g ∷ s .args .rank ∷ levelsOf (s .args .group)) (letter .put-byte .ensures)
-          (puts-then (number .put-field .ensures) (puts-then (rank .put-field2 .ensures) (levels .put-levels .ensures .0)))
-          (c .before .before .put-byte2 .ensures)),
-      omega arith,
-    )
+    let end = c .before .before in
+    let levels = end .before .before .before .before in
+    let ranked = rank levels in let numbered = number ranked in
+    let first = letter numbered in
+    let s = first .before .before .before .before in
+    let put = puts-then (numbered .put-field .ensures) (puts-then (ranked .put-field2 .ensures) (levels .put-levels .ensures .0)) in
+    (rw (← s .pre .3) (puts-line (_ ∷ _ ∷ levelsOf (s .args .group)) (first .put-byte .ensures) put (end .put-byte2 .ensures)), omega (arith, sizes first))
 
 pub put-group-spec : {M : Type 1} → statement M
 put-group-spec =

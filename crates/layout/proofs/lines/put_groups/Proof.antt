@@ -38,11 +38,11 @@ element-copy-out-put-group c = search needs
 
 put-group-requires : tie.Need-put-group-requires Inv-loop μ-loop
 put-group-requires c κs =
-    let h = c .before .before .before .before .before .before .before .pre .1 in
-    let l = c .before .before .before .before .loop in
+    let at = c .before .before .before .before in
+    let h = at .before .before .before .pre .1 in
     let few = h .holds .few in
     let below = c .before .before .before .loop-test .taken in
-    (omega arith, omega arith, group-at-held (h .holds) (l .g) below _, rank-at h (l .g) below _)
+    (omega arith, omega arith, group-at-held (h .holds) (at .loop .g) below _, rank-at h (at .loop .g) below _)
 
 add-g : tie.Need-add-g Inv-loop μ-loop
 add-g c = search needs
@@ -52,12 +52,11 @@ loop-less c = search needs
 
 loop-again : tie.Need-loop-again Inv-loop μ-loop
 loop-again c =
-    let h = c .before .before .before .before .before .before .before .before .before .before .pre .1 .holds in
-    let l = c .before .before .before .before .before .before .before .loop in
-    let below = c .before .before .before .before .before .before .loop-test .taken in
-    let put = c .before .before .put-group .ensures in
-    row-next groups-grow _ _ _ _ (l .inv) (omega (arith, held-count h)) []
-    (rw (held-levels h (l .g) below (record { n = 0; levels = [] })) at (put .0)) (put .1)
+    let put = c .before .before in
+    let turn = put .before .before .before .before in
+    let h = turn .before .before .before .before .pre .1 .holds in
+    let line = rw (held-levels h (turn .before .loop .g) (turn .loop-test .taken) (record { n = 0; levels = [] })) at (put .put-group .ensures .0) in
+    row-next groups-grow _ _ _ _ (turn .before .loop .inv) (omega (arith, held-count h)) [] line (put .put-group .ensures .1)
 
 same-length : tie.Need-same-length Inv-loop μ-loop
 same-length c = c .before .loop .inv .put .long

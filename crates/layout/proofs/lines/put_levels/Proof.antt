@@ -44,9 +44,9 @@ loop-less c = search needs
 
 loop-again : tie.Need-loop-again Inv-loop μ-loop
 loop-again c =
-    let l = c .before .before .before .before .before .before .loop in
-    row-next fields-grow _ _ _ _ (l .inv) (c .before .before .before .before .before .loop-test .taken) 0 (c .before .before .put-field .ensures)
-    (omega (arith, width (c .before .before .before .before)))
+    let turn = c .before .before .before .before in
+    row-next fields-grow _ _ _ _ (turn .before .before .loop .inv) (turn .before .loop-test .taken) 0 (c .before .before .put-field .ensures)
+    (omega (arith, width turn))
 
 same-length : tie.Need-same-length Inv-loop μ-loop
 same-length c = c .before .loop .inv .put .long
