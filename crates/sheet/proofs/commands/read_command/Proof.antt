@@ -11,14 +11,15 @@ use Rattle.sheet.proofs.commands.read_command.Statement.{statement}
 use Rattle.sheet.proofs.commands.read_command.Tie as tie
 
 -- past the tests, the kind decides
-at-body : (d : tie.Else3)
-    → let a = d .before .before .before .before .before .before .before .before .args in
+abbrev entry : tie.Else2 → tie.Start
+entry c = c .before .before .before .before .before
+
+at-body : (d : tie.Else3) → let a = entry (d .before .before .before) .args in
     command (a .sizes .now) (a .s .now) (a .at)
     ≡ bodyAt (getD (a .s .now) (a .at) 0) (getD (a .s .now) (a .at + 1) 0) (getD (a .sizes .now) (d .before .wide .result) 0) (a .s .now) (a .at + 1 + 1)
 at-body d =
     let tests = d .before .before .before in
-    rw (d .before .wide .ensures)
-    (command-body _ _ _ (tests .before .before .if1 .left) (tests .if2 .left) (rw (d .before .wide .ensures) at (d .if3 .left)))
+    rw (d .before .wide .ensures) (command-body _ _ _ (tests .before .before .if1 .left) (tests .if2 .left) (rw (d .before .wide .ensures) at (d .if3 .left)))
 
 returns : tie.Need-returns
 unfolding entryAnswer
@@ -32,8 +33,7 @@ add-place c = search needs
 
 returns-2 : tie.Need-returns-2
 unfolding entryAnswer
-returns-2 c =
-    c .refuse2 .ensures ∙ ap entryAnswer (sym (command-half _ _ _ (c .before .before .before .if1 .left) (c .before .if2 .taken)))
+returns-2 c = c .refuse2 .ensures ∙ ap entryAnswer (sym (command-half _ _ _ (c .before .before .before .if1 .left) (c .before .if2 .taken)))
 
 shared-slice-read-group : tie.Need-shared-slice-read-group
 shared-slice-read-group c = search needs
@@ -60,8 +60,8 @@ count-at-requires c κs = search needs
 
 rewrite-at-requires : tie.Need-rewrite-at-requires
 rewrite-at-requires c κs =
-    let small = c .before .before .before .before .before .before .before .before .before .before .pre in
-    (search needs, omega (arith, small (c .before .before .before .wide .result)))
+    let named = c .before .before .before in
+    (search needs, omega (arith, entry (named .before .before) .pre (named .wide .result)))
 
 store-at-requires : tie.Need-store-at-requires
 store-at-requires c κs = search needs

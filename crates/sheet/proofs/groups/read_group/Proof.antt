@@ -13,22 +13,22 @@ use Rattle.sheet.proofs.groups.read_group.Statement.{statement}
 use Rattle.sheet.proofs.groups.read_group.Tie as tie
 
 -- past the first tests, n is in its range
-sized-now : (c : tie.Else2)
-    → let a = c .before .before .before .before .before .before .args in Sized (a .s .now) (a .at) (c .before .before .wide .result)
+abbrev entry : tie.Else2 → tie.Start
+entry c = c .before .before .before .before .before .before
+
+sized-now : (c : tie.Else2) → Sized (entry c .args .s .now) (entry c .args .at) (c .before .before .wide .result)
 sized-now c =
     let range = size-range _ (within-some (c .before .before .wide .result) (c .before .size-within .ensures) (c .if2 .left) .0) in
     record { here = c .before .before .before .before .if1 .left; is = c .before .before .wide .ensures; some = range .0; few = range .1 }
 
 -- the row's first n places are the levels
 first-levels : (c : tie.After-levels-at)
-    → let at = c .before .before in
-    let a = at .before .before .before .before .before .before .args in
-    let n = at .before .before .wide .result in
+    → let a = entry (c .before .before) .args in
+    let n = c .before .before .before .before .wide .result in
     take n (c .levels-at .result) ≡ numbers 2 n (a .s .now) (a .at + 1)
 first-levels c =
-    let at = c .before .before in
-    let a = at .before .before .before .before .before .before .args in
-    let n = at .before .before .wide .result in
+    let a = entry (c .before .before) .args in
+    let n = c .before .before .before .before .wide .result in
     rw (c .levels-at .ensures) (take-at (numbers 2 n (a .s .now) (a .at + 1)) _ n (numbers-length (a .s .now) 2 n (a .at + 1)))
 
 returns : tie.Need-returns
@@ -89,7 +89,7 @@ returns-5 c =
     let tied = c .before in
     let levels = tied .before .before in
     let at = levels .before .before in
-    let a = at .before .before .before .before .before .before .args in
+    let a = entry at .args in
     rw (
       levels .levels-at .ensures,
       group-there (a .s .now) (a .at) _ (sized-now at) (omega arith) _ (first-levels levels) (sym (tied .tied .ensures) ∙ c .if4 .left),
