@@ -40,11 +40,14 @@ sizes-now : (c : tie.After-sizes-of Inv-loop μ-loop)
     → let groups = c .before .before .args .groups in take (groups .count) (c .sizes-of .result) ≡ map length (groupsIn groups)
 sizes-now c = rw (c .sizes-of .ensures) (sizes-front (c .before .before .pre .1))
 
+abbrev sized : tie.After-sizes Inv-loop μ-loop → tie.After-sizes-of Inv-loop μ-loop
+sized c = c .before .before .before .before
+
 -- so what is found is a command of the sheet
 found-now : (c : tie.After-read-command Inv-loop μ-loop)
-    → let a = c .before .before .before .before .before .before .before .args in
+    → let a = sized (c .before) .before .before .args in
     c .read-command .result ≡ entryAnswer (reader (a .groups) (a .s .now) (c .before .before .before .loop .at))
-found-now c = rw (sizes-now (c .before .before .before .before .before)) at (c .read-command .ensures)
+found-now c = rw (sizes-now (sized (c .before))) at (c .read-command .ensures)
 
 sizes-of-requires : tie.Need-sizes-of-requires Inv-loop μ-loop
 sizes-of-requires c κs = c .before .pre .1
@@ -58,21 +61,18 @@ array-share-prefix-sizes : tie.Need-array-share-prefix-sizes Inv-loop μ-loop
 array-share-prefix-sizes c = search needs
 
 slice-aggregate-read-command : tie.Need-slice-aggregate-read-command Inv-loop μ-loop
-slice-aggregate-read-command c =
-    let few = c .before .before .before .before .before .before .pre .1 .few in
-    sym (length-take-le _ (c .before .before .before .before .sizes-of .result) (search needs))
+slice-aggregate-read-command c = let few = sized c .before .before .pre .1 .few in sym (length-take-le _ (sized c .sizes-of .result) (search needs))
 
 read-command-requires : tie.Need-read-command-requires Inv-loop μ-loop
 read-command-requires c κs =
-    let sizes = c .before .before .before .before in
-    let start = sizes .before .before in
-    rw (sizes-now sizes) (small (groupsIn (start .args .groups)) (start .pre .1 .readable))
+    let start = sized c .before .before in
+    rw (sizes-now (sized c)) (small (groupsIn (start .args .groups)) (start .pre .1 .readable))
 
 returns : tie.Need-returns Inv-loop μ-loop
 unfolding sheetAnswer
 returns c =
-    let l = c .before .before .before .before .before .before .loop in
     let found = c .before .before .before in
+    let l = found .before .before .before .loop in
     let bad = answered-fault entry-tells-fault (found .read-command .result) _ (found-now found) (c .before .if1 .taken) in
     let stopped = turns-stop (l .inv) (search needs) (bad .0) (bad .1) in
     c .refuse .ensures ∙ rw (bad .2) (ap sheetAnswer (sym (row-fault _ _ _ _ _ stopped)))
@@ -92,8 +92,8 @@ loop-less c = search needs
 loop-again : tie.Need-loop-again Inv-loop μ-loop
 unfolding entryAnswer
 loop-again c =
-    let l = c .before .before .before .before .before .before .loop in
     let found = c .before .before .before in
+    let l = found .before .before .before .loop in
     let good = answered-got entry-tells-fault (found .read-command .result) _ (found-now found) (c .before .if1 .left) in
     turns-more (l .inv) (search needs) (search needs) (good .0) (good .1) (good .2) _ _
     (ap (λ (r : EntryRead). r .entry) (good .3)) (ap (λ (r : EntryRead). r .next) (good .3))
@@ -101,14 +101,14 @@ loop-again c =
 returns-2 : tie.Need-returns-2 Inv-loop μ-loop
 unfolding sheetAnswer
 returns-2 c =
-    let l = c .before .before .before .loop in
-    c .refuse2 .ensures ∙ ap sheetAnswer (sym (row-more _ _ _ _ _ _ (turns-all (l .inv) (search needs)) (λ e. omega arith)))
+    c .refuse2 .ensures ∙ ap sheetAnswer (sym (row-more _ _ _ _ _ _ (turns-all (c .before .before .before .loop .inv) (search needs)) (λ e. omega arith)))
 
 returns-3 : tie.Need-returns-3 Inv-loop μ-loop
 unfolding sheetAnswer
 returns-3 c =
-    let start = c .before .before .before .before .before .before in
     let l = c .before .before .loop in
+    let sizes = c .before .before .before .before in
+    let start = sizes .before .before in
     let done : start .args .count ≤ l .i = search needs in
     let front = l .inv .front ∙ ap (padded 1000 noEntry) (map-id (l .inv .read)) in
     ap (λ (s : Sheet). record { number = 0; sheet = s })

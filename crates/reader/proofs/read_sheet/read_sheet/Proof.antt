@@ -55,11 +55,11 @@ loop-holds c = rw (c .no-groups .ensures) (turns-none groupOf 64 noGroup (group 
 returns-4 : tie.Need-returns-4 Inv-loop μ-loop
 unfolding sheetAnswer
 returns-4 c =
-    let l = c .before .before .before .before .before .loop in
-    let found = c .before .before .before .read-group in
-    let tests = c .before .before .before .before .before .before .before in
-    let bad = answered-fault group-tells-fault (found .result) _ (found .ensures) (c .before .if4 .taken) in
-    let stopped = turns-stop (l .inv) (search needs) (bad .0) (bad .1) in
+    let found = c .before .before .before in
+    let at = found .before .before in
+    let tests = at .before .before in
+    let bad = answered-fault group-tells-fault _ _ (found .read-group .ensures) (c .before .if4 .taken) in
+    let stopped = turns-stop (at .loop .inv) (search needs) (bad .0) (bad .1) in
     c .refuse4 .ensures
     ∙ rw (bad .2)
     (ap sheetAnswer (sym (sheet-fault _ _ (omega arith) (tests .before .before .wide .ensures) (tests .before .if2 .left) (tests .if3 .left) _ stopped)))
@@ -79,10 +79,9 @@ loop-less c = search needs
 loop-again : tie.Need-loop-again Inv-loop μ-loop
 unfolding groupAnswer
 loop-again c =
-    let l = c .before .before .before .before .before .loop in
-    let found = c .before .before .before .read-group in
-    let good = answered-got group-tells-fault (found .result) _ (found .ensures) (c .before .if4 .left) in
-    turns-more (l .inv) (search needs) (search needs) (good .0) (good .1) (good .2) _ _
+    let found = c .before .before .before in
+    let good = answered-got group-tells-fault _ _ (found .read-group .ensures) (c .before .if4 .left) in
+    turns-more (found .before .before .loop .inv) (search needs) (search needs) (good .0) (good .1) (good .2) _ _
     (ap (λ (r : GroupRead). r .group) (good .3)) (ap (λ (r : GroupRead). r .next) (good .3))
 
 read-commands-requires : tie.Need-read-commands-requires Inv-loop μ-loop
@@ -94,10 +93,11 @@ returns-5 : tie.Need-returns-5 Inv-loop μ-loop
 returns-5 c =
     let l = c .before .before .loop in
     let tests = c .before .before .before .before in
-    let bytes = tests .before .before .before .before .before .before .args .bytes .now in
+    let counted = tests .before .before in
+    let bytes = counted .before .before .before .before .args .bytes .now in
     let back = ap groupsIn (held-now (c .before)) ∙ groups-back (l .inv .read) in
     let whole =
-    sheet-groups bytes _ (omega arith) (tests .before .before .wide .ensures) (tests .before .if2 .left) (tests .if3 .left) (l .inv .read) _
+    sheet-groups bytes _ (omega arith) (counted .wide .ensures) (tests .before .if2 .left) (tests .if3 .left) (l .inv .read) _
     (turns-all (l .inv) (search needs)) in
     c .read-commands .ensures ∙ ap sheetAnswer (ap (λ (Ls : List (List ℕ)). commands Ls bytes (l .at)) back ∙ sym whole)
 
