@@ -19,23 +19,23 @@ same-length : tie.Need-same-length
 same-length c = search needs
 
 returns : tie.Need-returns
-returns c = rw (c .before .before .before .before .before .action .given .1) (c .before .before .count-up .ensures)
+returns c = let done = c .before .before in rw (done .before .before .before .action .given .1) (done .count-up .ensures)
 
 same-length-2 : tie.Need-same-length-2
 same-length-2 c = search needs
 
 returns-2 : tie.Need-returns-2
 returns-2 c =
-    let left = c .before .before .before .rewrite .ensures in
-    rw (c .before .before .before .before .before .before .enum-told .given .1) (left .0, left .1 .0)
+    let done = c .before .before .before in
+    rw (done .before .before .before .enum-told .given .1) (done .rewrite .ensures .0, done .rewrite .ensures .1 .0)
 
 same-length-3 : tie.Need-same-length-3
 same-length-3 c = search needs
 
 returns-3 : tie.Need-returns-3
 returns-3 c =
-    let left = c .before .before .store .ensures in
-    rw (c .before .before .before .before .before .action2 .given .1) (left .0, left .1 .0)
+    let done = c .before .before in
+    rw (done .before .before .before .action2 .given .1) (done .store .ensures .0, done .store .ensures .1 .0)
 
 pub act-spec : {M : Type 1} → statement M
 act-spec =

@@ -20,7 +20,7 @@ read-requires : tie.Need-read-requires
 read-requires c κs = search needs
 
 returns : tie.Need-returns
-returns c = read-rank _ (c .before .before .before .before .before .pre .readable) (c .before .before .read .ensures) (c .rank .ensures)
+returns c = let at = c .before .before in read-rank _ (at .before .before .before .pre .readable) (at .read .ensures) (c .rank .ensures)
 
 pub rank-of-spec : {M : Type 1} → statement M
 rank-of-spec = tie.close (tie.spec array-share-prefix-levels slice-aggregate-read read-requires (λ c κs. tt) returns)

@@ -21,12 +21,15 @@ mul-entry c = search needs
 element-copy-out-entry : tie.Need-element-copy-out-entry Inv-loop μ-loop
 element-copy-out-entry c = let few = count-few (c .before .before .before .before .pre) in omega arith
 
+-- the turn that a group is named in
+abbrev turn : tie.After-wide Inv-loop μ-loop → tie.In-loop Inv-loop μ-loop
+turn c = c .before .before .before .before
+
 -- the group that the command names stands in the row
-below : (c : tie.After-wide Inv-loop μ-loop) → (c .wide .result < c .before .before .before .before .before .loop .groups .count) × (c .wide .result < 64)
+below : (c : tie.After-wide Inv-loop μ-loop) → (c .wide .result < turn c .before .loop .groups .count) × (c .wide .result < 64)
 below c =
-    let turn = c .before .before .before .before in
-    let at = turn .before in
-    let b = index-below (at .before .before .before .pre) (at .loop .inv) (turn .loop-test .taken) _ (c .wide .ensures) in
+    let at = turn c .before in
+    let b = index-below (at .before .before .before .pre) (at .loop .inv) (turn c .loop-test .taken) _ (c .wide .ensures) in
     (b .0, omega (arith, b .0, b .1))
 
 mul-group : tie.Need-mul-group Inv-loop μ-loop
@@ -37,7 +40,7 @@ element-copy-out-group c = below c .1
 
 act-group-requires : tie.Need-act-group-requires Inv-loop μ-loop
 act-group-requires c κs =
-    let at = c .before .before .before .before .before .before in
+    let at = turn (c .before) .before in
     group-at-held (progress-held (at .before .before .before .pre) (at .loop .inv)) _ (below (c .before) .0) _
 
 mul-answers : tie.Need-mul-answers Inv-loop μ-loop
@@ -45,9 +48,7 @@ mul-answers c = search needs
 
 array-set-from-answers : tie.Need-array-set-from-answers Inv-loop μ-loop
 array-set-from-answers c =
-    let at = c .before .before .before .before .before .before .before .before .before in
-    let few = count-few (at .before .before .before .pre) in
-    omega arith
+    let at = turn (c .before .before .before .before) .before in let few = count-few (at .before .before .before .pre) in omega arith
 
 mul-left : tie.Need-mul-left Inv-loop μ-loop
 mul-left c = let b = below (c .before .before .before .before) .1 in search needs
@@ -64,9 +65,8 @@ loop-less c = search needs
 loop-again : tie.Need-loop-again Inv-loop μ-loop
 loop-again c =
     let named = c .before .before .before .before in
-    let turn = named .before .before .before .before in
-    let at = turn .before in
-    step (at .before .before .before .pre) (at .loop .inv) (turn .loop-test .taken) _ (named .wide .ensures) _ (c .before .before .act-group .ensures)
+    let at = turn named .before in
+    step (at .before .before .before .pre) (at .loop .inv) (turn named .loop-test .taken) _ (named .wide .ensures) _ (c .before .before .act-group .ensures)
 
 ranks-of-requires : tie.Need-ranks-of-requires Inv-loop μ-loop
 ranks-of-requires c κs = progress-held (c .before .before .before .before .pre) (c .before .loop .inv)
