@@ -6,6 +6,10 @@ use Rattle.text.proofs.Printing.{laid-taken, too-short, long-enough, co
 use Rattle.text.proofs.bench.bench.Statement.{statement}
 use Rattle.text.proofs.bench.bench.Tie as tie
 
+-- the start, from where the page is laid out
+abbrev entry : tie.After-lay → tie.Start
+entry c = c .before .before .before .before .before
+
 slice-aggregate-lay : tie.Need-slice-aggregate-lay
 slice-aggregate-lay c = search needs
 
@@ -14,9 +18,7 @@ lay-requires c κs = search needs
 
 returns : tie.Need-returns
 returns c =
-    let lay = c .before .before .lay .ensures in
-    let text = c .before .before .before .before .before .before .before .args .text .now in
-    let short = too-short (lay .0) text (omega arith) in
+    let short = too-short (c .before .before .lay .ensures .0) (entry (c .before .before) .args .text .now) (omega arith) in
     (short .0, (short .1, (λ room. absurd (omega arith), (omega arith, refl))))
 
 array-share-prefix-page : tie.Need-array-share-prefix-page
@@ -33,11 +35,9 @@ same-length c = search needs
 
 returns-2 : tie.Need-returns-2
 returns-2 c =
-    let lay = c .before .before .before .before .before .before .before .lay .ensures in
-    let text = c .before .before .before .before .before .before .before .before .before .before .before .before .args .text .now in
-    let copied = c .before .before .copy .ensures .1 in
-    let fits = long-enough (lay .0) text (omega arith) copied in
-    (fits .0, (fits .1, (λ room. refl, counted (lay .0) text (omega arith) copied)))
+    let copying = c .before .before .before in let laid = copying .before .before .before .before in
+    let fits = long-enough (laid .lay .ensures .0) (entry laid .args .text .now) (omega arith) (c .before .before .copy .ensures .1) in
+    (fits .0, (fits .1, (λ room. refl, counted (laid .lay .ensures .0) (entry laid .args .text .now) (omega arith) (c .before .before .copy .ensures .1))))
 
 pub bench-spec : {M : Type 1} → statement M
 bench-spec =
