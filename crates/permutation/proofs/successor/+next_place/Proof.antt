@@ -52,20 +52,20 @@ add-result t c = search needs
 
 next-place-requires : (t : ℕ) → next-place-lts.Need-next-place-requires (claims t) (given t) next-place.Post
 next-place-requires t c κs =
-    let entry = c .before .before .before .before .before .before .before in
+    let past = c .before .before .before in let entry = past .before .before .before .before in
     let e = smaller-n (entry .args .n) (entry .args .cells .now) (omega arith) (omega arith) (entry .pre .1 .1) (c .before .before .reflected .ensures) in
     (omega (arith, e), (omega (arith, e), search needs))
 
 sub-result : (t : ℕ) → next-place-lts.Need-sub-result (claims t) (given t) next-place.Post
 sub-result t c =
-    let entry = c .before .before .before .before .before .before .before .before in
+    let past = c .before .before .before .before in let entry = past .before .before .before .before in
     smaller-bound (entry .args .n) (entry .args .cells .now) (omega arith) (omega arith) (entry .pre .1 .1)
     (c .before .before .before .reflected .ensures) (c .next-place .ensures)
 
 returns-3 : (t : ℕ) → next-place-lts.Need-returns-3 (claims t) (given t) next-place.Post
 returns-3 t c =
-    let entry = c .before .before .before .before .before .before .before .before in
-    let top = sym (c .before .before .before .before .before .wide .ensures) ∙ c .before .before .before .before .if2 .left in
+    let past = c .before .before .before .before in let entry = past .before .before .before .before in
+    let top = sym (past .before .wide .ensures) ∙ past .if2 .left in
     successor-first (entry .args .n) (entry .args .cells .now) (omega arith) (omega arith) (entry .pre .1 .1)
     (c .before .before .before .reflected .ensures) (c .next-place .ensures) top
 

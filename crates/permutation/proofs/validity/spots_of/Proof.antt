@@ -24,10 +24,14 @@ element-copy-out-wide : tie.Need-element-copy-out-wide Inv-loop μ-loop
 element-copy-out-wide c = search needs
 
 -- the turn at the name that was read
-turn : (c : tie.After-wide Inv-loop μ-loop) → let at = c .before .before .before in Turn (at .before .args .n) (at .loop .i) (c .wide .result) (at .before .args .cells .now)
+turn : (c : tie.After-wide Inv-loop μ-loop)
+    → let at = c .before .before .before in Turn (at .before .args .n) (at .loop .i) (c .wide .result) (at .before .args .cells .now)
 turn c =
     let at = c .before .before .before in
     record { few = at .before .pre .0; long = at .before .pre .1; more = c .before .before .loop-test .taken; is = c .wide .ensures }
+
+abbrev named : tie.After-bit Inv-loop μ-loop → tie.After-wide Inv-loop μ-loop
+named c = c .before .before .before .before .before
 
 returns : tie.Need-returns Inv-loop μ-loop
 returns c = c .without-spots .ensures ∙ met-outside (turn (c .before .before)) (λ b. omega (arith, b .0))
@@ -54,9 +58,7 @@ bit-requires : tie.Need-bit-requires Inv-loop μ-loop
 bit-requires c κs = search needs
 
 add-seen : tie.Need-add-seen Inv-loop μ-loop
-add-seen c =
-    let got = c .before .before .before .before .before in
-    omega (arith, met-fits (turn got) (got .before .before .before .loop .inv .1) (omega arith) (omega arith), c .bit .ensures)
+add-seen c = let at = named c in omega (arith, met-fits (turn at) (at .before .before .before .loop .inv .1) (omega arith) (omega arith), c .bit .ensures)
 
 add-i : tie.Need-add-i Inv-loop μ-loop
 add-i c = search needs
@@ -66,11 +68,9 @@ loop-less c = search needs
 
 loop-again : tie.Need-loop-again Inv-loop μ-loop
 loop-again c =
-    let got = c .before .before .before .before .before in
-    let met = got .before .before .before .loop .inv .1 in (
-      omega arith,
-      rw (c .bit .ensures) (met-turn (turn got) met (omega arith) (omega arith) _ (c .before .before .if3 .left) (c .before .ones-below .ensures)),
-    )
+    let met = named c .before .before .before .loop .inv .1 in
+    let next = met-turn (turn (named c)) met (omega arith) (omega arith) _ (c .before .before .if3 .left) (c .before .ones-below .ensures) in
+    (omega arith, rw (c .bit .ensures) next)
 
 returns-4 : tie.Need-returns-4 Inv-loop μ-loop
 returns-4 c =
