@@ -13,13 +13,15 @@ Inv-loop levels₀ cells₀ top k n last level₀ levels cells level = Counting 
 abbrev μ-loop : tie.MeasureT-loop
 μ-loop levels₀ cells₀ top k n last level₀ levels cells level = last - level
 
--- the cell that a turn pushes
+-- a turn, and the cell that it pushes
+abbrev turn : tie.After-push-row Inv-loop μ-loop → tie.In-loop Inv-loop μ-loop
+turn c = c .before .before .before .before
+
 cell : (c : tie.After-wide Inv-loop μ-loop)
-    → let turn = c .before .before .before .before .before .before .before in
-    PlacedCell (turn .loop .levels) (c .before .before .before .before .next-place .result) (c .wide .result)
+    → PlacedCell (turn (c .before .before) .before .loop .levels) (c .before .before .before .before .next-place .result) (c .wide .result)
 cell c =
-    next-cell (c .before .before .before .before .before .before .before .loop .inv) (c .before .before .before .before .next-place .ensures)
-    (c .before .before .push-row .ensures) (c .wide .ensures)
+    let row = c .before .before in
+    next-cell (turn row .before .loop .inv) (row .before .before .next-place .ensures) (row .push-row .ensures) (c .wide .ensures)
 
 add-last : tie.Need-add-last Inv-loop μ-loop
 add-last c = omega (arith, c .before .pre .room)
@@ -28,9 +30,7 @@ loop-holds : tie.Need-loop-holds Inv-loop μ-loop
 loop-holds c = start (c .before .pre)
 
 next-place-requires : tie.Need-next-place-requires Inv-loop μ-loop
-next-place-requires c κs =
-    let inv = c .before .before .loop .inv in
-    (omega (arith, inv .ready .many, inv .size), long inv)
+next-place-requires c κs = let inv = c .before .before .loop .inv in (omega (arith, inv .ready .many, inv .size), long inv)
 
 push-row-requires : tie.Need-push-row-requires Inv-loop μ-loop
 push-row-requires c κs =
@@ -39,7 +39,7 @@ push-row-requires c κs =
     (omega (arith, b .0), omega (arith, b .1, inv .ready .many), long inv)
 
 add-level : tie.Need-add-level Inv-loop μ-loop
-add-level c = omega (arith, c .before .before .before .before .before .loop .inv .ready .room)
+add-level c = omega (arith, turn c .before .loop .inv .ready .room)
 
 element-copy-out-wide : tie.Need-element-copy-out-wide Inv-loop μ-loop
 element-copy-out-wide c = search needs
@@ -48,7 +48,7 @@ sub-levels : tie.Need-sub-levels Inv-loop μ-loop
 sub-levels c = cell c .low
 
 mul-levels : tie.Need-mul-levels Inv-loop μ-loop
-mul-levels c = omega (arith, cell c .high, c .before .before .before .before .before .before .before .loop .inv .ready .many)
+mul-levels c = omega (arith, cell c .high, turn (c .before .before) .before .loop .inv .ready .many)
 
 slice-write-levels : tie.Need-slice-write-levels Inv-loop μ-loop
 slice-write-levels c = omega (arith, cell c .low, cell c .high)
@@ -58,8 +58,8 @@ loop-less c = search needs
 
 loop-again : tie.Need-loop-again Inv-loop μ-loop
 loop-again c =
-    step (c .before .before .before .before .before .before .before .loop .inv) (c .before .before .before .before .next-place .ensures)
-    (c .before .before .push-row .ensures) (c .wide .ensures) (c .before .before .before .before .before .before .loop-test .taken)
+    let row = c .before .before in
+    step (turn row .before .loop .inv) (row .before .before .next-place .ensures) (row .push-row .ensures) (c .wide .ensures) (turn row .loop-test .taken)
 
 same-length : tie.Need-same-length Inv-loop μ-loop
 same-length c = c .before .loop .inv .size

@@ -13,9 +13,11 @@ use Rattle.charge.proofs.count_up.count_up.Tie as tie
 
 -- past the test the call is done
 call : (c : tie.Else1)
-    → let entry = c .before .before .before .before in
-    Granted (entry .args .k) (entry .args .levels .now) (c .before .judge-call .result .top)
+    → let a = c .before .before .before .before .args in Granted (a .k) (a .levels .now) (c .before .judge-call .result .top)
 call c = judged-granted _ _ (c .before .judge-call .ensures) (c .if1 .left)
+
+abbrev past : tie.After-cells2 → tie.Else1
+past c = c .before .before .before .before .before
 
 same-length : tie.Need-same-length
 same-length c = search needs
@@ -23,8 +25,7 @@ same-length c = search needs
 returns : tie.Need-returns
 unfolding callJudged callAnswer callLevels
 returns c =
-    let at = c .before .before in
-    let a = at .before .before .before .args in
+    let at = c .before .before in let a = at .before .before .before .args in
     pushes-refused (a .k) (a .levels .now) (countUp (a .k) (a .levels .now)) (c .no-pushes .ensures)
     (ap (λ (a : Call). a .number) (at .judge-call .ensures)) (c .before .if1 .taken)
 
@@ -32,11 +33,11 @@ sort-cells-requires : tie.Need-sort-cells-requires
 sort-cells-requires c κs = (call (c .before .before) .faultless .many, refl)
 
 cast-count-steps : tie.Need-cast-count-steps
-cast-count-steps c = record { fits = omega (arith, call (c .before .before .before .before .before) .room) }
+cast-count-steps c = record { fits = omega (arith, call (past c) .room) }
 
 count-steps-requires : tie.Need-count-steps-requires
 count-steps-requires c κs =
-    let g = call (c .before .before .before .before .before) in
+    let g = call (past c) in
     record {
       few = g .faultless .few;
       many = g .faultless .many;
@@ -52,10 +53,9 @@ same-length-2 c = search needs
 returns-2 : tie.Need-returns-2
 unfolding callAnswer callLevels
 returns-2 c =
-    let past = c .before .before .before .before .before .before .before .before .before in
-    let a = past .before .before .before .before .args in
-    pushes-done (a .k) (a .levels .now) (countUp (a .k) (a .levels .now)) (c .done-pushes .ensures) (call past .number)
-    (c .before .before .before .count-steps .ensures)
+    let at = c .before .before .before in
+    let a = past (at .before) .before .before .before .before .args in
+    pushes-done (a .k) _ (countUp (a .k) (a .levels .now)) (c .done-pushes .ensures) (call (past (at .before)) .number) (at .count-steps .ensures)
 
 pub count-up-spec : {M : Type 1} → statement M
 count-up-spec =

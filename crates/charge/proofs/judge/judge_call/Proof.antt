@@ -35,16 +35,16 @@ sub-if2 c = search needs
 returns-2 : tie.Need-returns-2
 unfolding callJudged callNumber
 returns-2 c =
-    let a = c .before .before .before .before .before .args in
+    let at = c .before .before in let a = at .before .before .before .args in
     let past = ceiling-refused (a .levels .now) (a .k) (omega (arith, c .if2 .taken, c .before .highest .ensures)) in
-    refused call (highest (a .levels .now)) 0 (rw (faultless (c .before .before)) past) (λ z. omega arith)
+    refused call (highest (a .levels .now)) 0 (rw (faultless at) past) (λ z. omega arith)
 
 returns-3 : tie.Need-returns-3
 unfolding callJudged callNumber
 returns-3 c =
-    let a = c .before .before .before .before .before .args in
+    let at = c .before .before in let a = at .before .before .before .args in
     let room = ceiling-done (a .levels .now) (a .k) (omega (arith, c .if2 .left, c .before .highest .ok, c .before .highest .ensures)) in
-    ap (call 0) (c .before .highest .ensures) ∙ answered call (highest (a .levels .now)) 0 (rw (faultless (c .before .before)) room)
+    ap (call 0) (c .before .highest .ensures) ∙ answered call (highest (a .levels .now)) 0 (rw (faultless at) room)
 
 pub judge-call-spec : {M : Type 1} → statement M
 judge-call-spec =

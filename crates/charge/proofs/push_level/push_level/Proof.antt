@@ -16,22 +16,26 @@ use Rattle.charge.proofs.Pushing.{PlacedCell, placed-cell, placed-push}
 use Rattle.charge.proofs.push_level.push_level.Statement.{statement}
 use Rattle.charge.proofs.push_level.push_level.Tie as tie
 
+-- the points before: the start, and, once the row is sorted, the tests
+abbrev entry : tie.Else1 → tie.Start
+entry c = c .before .before .before .before
+
+abbrev past : tie.After-cells → tie.Else3
+past c = c .before .before .before .before .before
+
 -- past the first test the levels have a permutation, and past the third there is the place
-faultless : (c : tie.Else1) → Readable (c .before .before .before .before .args .levels .now)
+faultless : (c : tie.Else1) → Readable (entry c .args .levels .now)
 faultless c = readable (sym (c .before .read-number .ensures) ∙ c .if1 .left)
 
-placed : (c : tie.Else3) → let a = c .before .before .before .before .before .before .args in (2 ≤ a .place) × (a .place ≤ length (a .levels .now))
-placed c = (c .before .if2 .left, c .if3 .left)
+placed : (c : tie.Else3) → let a = entry (c .before .before) .args in Readable (a .levels .now) × (2 ≤ a .place) × (a .place ≤ length (a .levels .now))
+placed c = (faultless (c .before .before), c .before .if2 .left, c .if3 .left)
 
 -- the cell there
 cell : (c : tie.After-wide)
-    → let a = c .before .before .before .before .before .before .before .before .before .before .before .before .before .args in
-    PlacedCell (a .levels .now) (a .place) (c .wide .result)
+    → let a = entry (past (c .before .before) .before .before) .args in PlacedCell (a .levels .now) (a .place) (c .wide .result)
 cell c =
-    let past = c .before .before .before .before .before .before .before in
-    let b = placed past in
-    let r = faultless (past .before .before) in
-    placed-cell _ _ (omega arith) (b .1) (sorted-row _ (r .many) (c .before .sort-cells .ensures)) (c .wide .ensures)
+    let b = placed (past (c .before .before)) in
+    placed-cell _ _ (omega arith) (b .2) (sorted-row _ (b .0 .many) (c .before .sort-cells .ensures)) (c .wide .ensures)
 
 -- a refusal
 refuses : (L : List ℕ) (i : ℕ) {a : Pushes} {number : ℕ} → a ≡ noPushes number → number ≡ placeNumber L i → (number ≡ 0 → ⊥)
@@ -43,9 +47,7 @@ same-length : tie.Need-same-length
 same-length c = search needs
 
 returns : tie.Need-returns
-returns c =
-    let ne = c .before .if1 .taken in
-    refuses _ _ (c .no-pushes .ensures) (place-fault _ _ (c .before .before .read-number .ensures) ne) ne
+returns c = let ne = c .before .if1 .taken in refuses _ _ (c .no-pushes .ensures) (place-fault _ _ (c .before .before .read-number .ensures) ne) ne
 
 same-length-2 : tie.Need-same-length-2
 same-length-2 c = search needs
@@ -66,18 +68,17 @@ same-length-4 c = search needs
 
 returns-4 : tie.Need-returns-4
 returns-4 c =
-    let past = c .before .before .before .before in
-    let b = placed past in
-    refuses _ _ (c .no-pushes4 .ensures) (place-ceiling _ _ (faultless (past .before .before)) (b .0) (b .1) (omega arith)) (λ z. omega arith)
+    let b = placed (c .before .before .before .before) in
+    refuses _ _ (c .no-pushes4 .ensures) (place-ceiling _ _ (b .0) (b .1) (b .2) (omega arith)) (λ z. omega arith)
 
 sort-cells-requires : tie.Need-sort-cells-requires
-sort-cells-requires c κs = (faultless (c .before .before .before .before .before .before .before) .many, refl)
+sort-cells-requires c κs = (placed (past c) .0 .many, refl)
 
 sub-wide : tie.Need-sub-wide
 sub-wide c = search needs
 
 array-read-wide : tie.Need-array-read-wide
-array-read-wide c = omega (arith, faultless (c .before .before .before .before .before .before .before .before) .many)
+array-read-wide c = omega (arith, placed (past (c .before)) .0 .many)
 
 sub-levels : tie.Need-sub-levels
 sub-levels c = omega (arith, cell c .low)
@@ -97,12 +98,11 @@ same-length-5 c = search needs
 returns-5 : tie.Need-returns-5
 unfolding placeAnswer placeLevels
 returns-5 c =
-    let top = c .before .before .before .before .before .before .highest in
-    let past = c .before .before .before .before .before .before .before .before in
-    let a = past .before .before .before .before .before .before .args in
-    let b = placed past in
+    let at = c .before .before .before in let top = at .before .before .before .highest in
+    let a = entry (past at .before .before) .args in
+    let b = placed (past at) in
     pushes-done 1 (a .levels .now) (pushLevel (cellAt (a .place) (permutationOf (a .levels .now))) (a .levels .now)) (c .done-pushes .ensures)
-    (place-done _ _ (faultless (past .before .before)) (b .0) (b .1) (omega (arith, top .ok, top .ensures))) (placed-push (cell (c .before)) (top .ensures))
+    (place-done _ _ (b .0) (b .1) (b .2) (omega (arith, top .ok, top .ensures))) (placed-push (cell (c .before)) (top .ensures))
 
 pub push-level-spec : {M : Type 1} → statement M
 push-level-spec =
