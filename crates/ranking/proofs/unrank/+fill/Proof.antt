@@ -64,7 +64,7 @@ cast-put-in t c = search needs
 
 put-in-requires : (t : ℕ) → fill-lts.Need-put-in-requires (claims t) (given t) fill.Post
 put-in-requires t c κs =
-    let start = c .before .before .before .before .before .before in
+    let spot = c .before .before .before in let start = spot .before .before .before in
     let a = start .args in
     (omega arith, omega arith, fill-length (not (a .down)) (a .m - 1) _ _ (a .cells .now) _ (omega arith) (c .before .fill .ensures) ∙ start .pre .1 .2)
 
