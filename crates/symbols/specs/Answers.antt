@@ -56,7 +56,7 @@ storeAnswer L m s = pushesOf (storeNumber L m s) (pushesFor L (prefixOn L m s))
 unfoldable pub storeLevels : List ℕ → ℕ → ℕ → List ℕ
 storeLevels L m s = given (storeNumber L m s) (pushLevels (storePushes (prefixOn L m s) (permutationOf L)) L) L
 
--- size and tie, value, then idle: "readAnswer: the order's prefix has number m or higher"
+-- size and tie, value, then idle: "reading: the order's prefix has number m or higher"
 unfoldable pub symbolNumber : List ℕ → ℕ → ℕ
 symbolNumber L m =
     orElse (readNumber L) (orElse (cond (coded (length L) m) done value) (cond (ltb (symbolOf (length L) m (permutationOf L)) m) done idle))

@@ -20,7 +20,7 @@ use Rattle.sheet.specs.declared.held.Entry.{Entry}
 abbrev pub room : ℕ
 room = 20
 
--- what a command of each kind answers on levels: the job of that name in `charge` or `rewriting`
+-- what a command of each kind answers on levels: the job of that name in `charge`, `rewriting` or `symbols`
 abbrev pub jobAnswer : Action → Permutation → List ℕ → Pushes
 jobAnswer (Count k) target L = callAnswer L k
 jobAnswer Rewrite target L = rewriteAnswer L target room
