@@ -57,7 +57,8 @@ fn filled_row(cells: [u8; 20], n: usize, rank: u64) -> [u8; 20]
     ensures { λ r. ⌜ r ≡ cellsBySpots true n 0 rank ++ drop n cells ⌝ }
 {
     let mut row = cells;
-    fill(&mut row, true, n, 0, rank);
+    // by way of a byte, so that the compiler knows the size's range in each round
+    fill(&mut row, true, (n as u8) as usize, 0, rank);
     row
 }
 
