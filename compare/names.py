@@ -1,7 +1,7 @@
 #!/usr/bin/env python3
 """Checks that what README.md, docs/*.md and docs/map/*.md name exists; docs/landings/ tells what was and is left out. What stands in back quotes must be one of
 
-- a path, whole or its last parts: `docs/map/01.md`, `bench/run`; below `target/`, which is not kept, by the crate that the file is named after: `target/log/bench.say`
+- a path, whole or its last parts: `docs/map/01.md`, `speed/run`; below `target/`, which is not kept, by the crate that the file is named after: `target/log/bench.say`
 - `specs/F`, `proofs/F` of crates/theory; `crate: F` (its specs/), `crate: specs/F`, `crate: proofs/F`; after these `: name`, a definition or theorem of that file
 - `Record.field`; `crate::file`, `crate::file::item`; `tm_name`, `TM_NAME` of the header; `rt check crate`
 - a word alone: a definition, theorem, field, function, struct, constant, edit, crate or file name, wherever it stands; after the word "edit" an edit

@@ -13,6 +13,7 @@ use charge::answers::Pushes;
 use sheet::held::Group;
 use work::answers::Outcome;
 
+// The one line of a faulty sheet. For `text`, which has the room.
 pub fn put_fault(text: &mut [u8], number: u8) -> usize
     requires { ⌜ 6 ≤ length (now text) ⌝ }
     ensures puts { λ r. ⌜ Puts (now (text .entry)) 0 (now (text .exit)) r (meaning.faultLine number) ⌝ }
@@ -66,6 +67,7 @@ fn put_group(text: &mut [u8], at: usize, g: usize, rank: u64, group: Group) -> u
     put_byte(text, d, b'\n')
 }
 
+// The lines of the commands, from the text's first byte on. For `text`, which has the room, of an outcome as `work` leaves it.
 pub fn put_commands(text: &mut [u8], outcome: Outcome) -> usize
     requires { ⌜ (outcome .count ≤ 1000) × (length (outcome .answers) ≡ 1000) × (22 * outcome .count ≤ length (now text)) ⌝ }
     ensures puts { λ r. ⌜ Puts (now (text .entry)) 0 (now (text .exit)) r (meaning.commandLines 1 (take (outcome .count) (outcome .answers))) ⌝ }
@@ -82,6 +84,7 @@ pub fn put_commands(text: &mut [u8], outcome: Outcome) -> usize
     at
 }
 
+// The lines of the groups, after those of the commands. For `text`, as above.
 pub fn put_groups(text: &mut [u8], from: usize, outcome: Outcome) -> usize
     requires { ⌜ (from + 146 * outcome .groups .count ≤ length (now text)) × OutcomeHeld outcome ⌝ }
     ensures puts { λ r. ⌜ Puts (now (text .entry)) from (now (text .exit)) r (meaning.groupLines 0 (groupsIn (outcome .groups))) ⌝ }

@@ -14,7 +14,6 @@ use Rattle.theory.proofs.Refusal.{refused, answered, orElse-refused}
 use Rattle.theory.proofs.Padding.{padding}
 use Rattle.theory.proofs.Stepping.{push-permutation}
 use Rattle.permutation.specs.Records.{listOf, recordOf, recordNumber}
-use Rattle.theory.specs.Refusal.{given, orElse}
 use Rattle.permutation.specs.Answers.{noPermutation, pushNumber, pushAnswer, successorAnswer}
 use Rattle.permutation.specs.declared.answers.Permutation.{Permutation}
 use Rattle.permutation.specs.declared.answers.Permuted.{Permuted}

@@ -1,4 +1,4 @@
--- The first cells of a row pushed on levels. Only private contracts cite these. Assumes nothing.
+-- The first cells of a row pushed on levels. Only inner contracts cite these. Assumes nothing.
 use mathlib.Core.Path.{_≡_}
 use mathlib.Core.List.{List, reverse}
 use Prim.Native.Nat.{ℕ, _+_, _≤_, _<_}

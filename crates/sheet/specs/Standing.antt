@@ -1,4 +1,4 @@
--- Groups and sheets in memory as code finds them: read, or left by commands. Only inner contracts cite these, here, in `work` and in `text`. Assumes nothing.
+-- Groups and sheets in memory as code finds them: read, or left by commands. Only inner contracts cite these, in `reader`, `work` and `layout`. Assumes nothing.
 use mathlib.Core.Path.{_≡_}
 use Prim.Native.Nat.{_≤_}
 use Rattle.theory.specs.Levels.{readNumber}

@@ -1,4 +1,4 @@
--- The storing rule by the cell on top. Only a private contract cites this. Assumes nothing.
+-- The storing rule by the cell on top. Only an inner contract cites this. Assumes nothing.
 use mathlib.Core.Bool.{cond}
 use mathlib.Core.List.{List}
 use Prim.Native.Nat.{ℕ, zero, suc}

@@ -1,4 +1,4 @@
--- What the number of a prefix is worked out from. Only private contracts cite this. Assumes nothing.
+-- What the number of a prefix is worked out from. Only inner contracts cite this. Assumes nothing.
 use mathlib.Core.Path.{_≡_}
 use mathlib.Core.List.{List}
 use Prim.Native.Nat.{ℕ, _≤_}

@@ -1,5 +1,5 @@
 -- `symbols::prefix::prefix` meets its contract: each test decides the number, and past them the row is the symbol's prefix. Assumes nothing.
-use mathlib.Core.Path.{_≡_, refl, sym, _∙_}
+use mathlib.Core.Path.{_≡_, refl, _∙_}
 use native.Mathlib.Omega.{arith}
 use lib.ListN.{getD}
 use Rattle.theory.specs.Refusal.{sizeOf}

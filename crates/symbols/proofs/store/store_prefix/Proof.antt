@@ -1,5 +1,4 @@
 -- `symbols::store::store_prefix` meets its contract: the cells that are not passed over are the pushes of the storing rule. Assumes nothing.
-use native.Mathlib.Omega.{arith}
 use borrow.Author.Needs.{needs}
 use Rattle.symbols.proofs.Storing.{prefix-lengths, prefix-pushable, unpassed-below, prefix-stored}
 use Rattle.symbols.proofs.store.store_prefix.Statement.{statement}
