@@ -1,25 +1,22 @@
 -- What a job on levels answers, by its number, and what a count-up call is judged by. Assumes nothing.
 use mathlib.Core.Path.{_≡_, sym, ap, ap₂, _∙_}
-use mathlib.Core.Bool.{cond, _&&_, and-eq-true-iff}
 use mathlib.Core.List.{List, []}
 use Prim.Native.Nat.{ℕ, _+_, _≤_, _<_}
-use borrow.Author.Tests.{leb-true, le-leb, lt-leb}
-use native.Mathlib.Omega.{arith}
-use lib.Dec.{leb}
+use borrow.Author.Tests.{le-leb, lt-leb}
 use lib.ListN.{length}
 use Rattle.theory.specs.Reasons.{done, value, ceiling, maxLevel}
 use Rattle.theory.specs.Refusal.{given}
 use Rattle.theory.specs.Permutation.{row}
 use Rattle.theory.specs.Levels.{highest, readNumber, permutationOf}
 use Rattle.theory.specs.CountUp.{ceilingOf, callNumber}
-use Rattle.theory.proofs.Refusal.{refused, answered, given-done, orElse-refused, orElse-done, tested, Readable, read-done, readable}
+use Rattle.theory.proofs.Refusal.{refused, answered, given-done, orElse-refused, orElse-done, Readable, read-done, readable}
 use Rattle.theory.proofs.Refusal.{ceiling-refused, ceiling-done, ceiling-room}
 use Rattle.theory.proofs.Sorting.{permutationOf-length}
 use Rattle.permutation.specs.declared.answers.Permuted.{Permuted}
 use Rattle.permutation.proofs.Answering.{permutedWith}
 use Rattle.charge.specs.declared.answers.Pushes.{Pushes}
-use Rattle.charge.specs.declared.judge.Judgement.{Judgement}
-use Rattle.charge.specs.Counting.{judgedBy, placeJudged, callJudged}
+use Rattle.charge.specs.declared.judge.Call.{Call}
+use Rattle.charge.specs.Counting.{callJudged}
 use Rattle.charge.specs.Answers.{noPushes, donePushes, pushesOf, readAnswer, placeNumber}
 
 -- ---- a job that pushes, by its number: k pushes, which leave the levels L′, or none, and the levels L as they were
@@ -74,55 +71,19 @@ read-sorted {L} r e =
     ap₂ (λ (n : ℕ) (l : List ℕ). record { number = 0; permutation = record { n = n; cells = l } }) (sym (permutationOf-length L)) e
     ∙ answered permutedWith (permutationOf L) [] (read-done r)
 
--- ---- a job that is judged, by its number
+-- ---- a call of count up with k
 
-module _ (L : List ℕ) {why : ℕ} where
-  pub judged-refused : {number : ℕ} → number ≡ why → (number ≡ 0 → ⊥) → _≡_ {A = Judgement} (record { number = number; top = 0 }) (judgedBy why L)
-  judged-refused e ne = refused (λ number top. record { number = number; top = top }) (highest L) 0 e ne
-
-  pub judged-done : {top : ℕ} → top ≡ highest L → why ≡ 0 → _≡_ {A = Judgement} (record { number = 0; top = top }) (judgedBy why L)
-  judged-done e z = rw e (answered (λ number top. record { number = number; top = top }) (highest L) 0 z)
-
-  judged-so : {a : Judgement} → a ≡ judgedBy why L → a .number ≡ 0 → (why ≡ 0) × (a .top ≡ highest L)
-  judged-so e z =
-      let number : why ≡ 0 = sym (ap (λ (a : Judgement). a .number) e) ∙ z in
-      (number, ap (λ (a : Judgement). a .top) e ∙ given-done why (highest L) 0 number)
-
--- a push at place i is done, and this is the highest level
-pub record PlaceGranted (L : List ℕ) (i top : ℕ) : Type 0 where
-  pub number : placeNumber L i ≡ 0
-  pub faultless : Readable L
-  pub low : 2 ≤ i
-  pub high : i ≤ length L
-  pub top-is : top ≡ highest L
-  pub room : top + 1 ≤ maxLevel
-
-pub place-granted : (L : List ℕ) (i : ℕ) {a : Judgement} → a ≡ placeJudged L i → a .number ≡ 0 → PlaceGranted L i (a .top)
-unfolding placeJudged placeNumber
-place-granted L i e z =
-    let s = judged-so L e z in
-    let past = orElse-done (readNumber L) _ (s .0) in
-    let there = orElse-done (cond (leb 2 i && leb i (length L)) done value) (ceilingOf L 1) (past .1) in
-    let b = and-eq-true-iff (leb 2 i) (leb i (length L)) .0 (tested (leb 2 i && leb i (length L)) (λ z. omega arith) (there .0)) in
-    record {
-      number = s .0;
-      faultless = readable (past .0);
-      low = leb-true 2 i (b .0);
-      high = leb-true i (length L) (b .1);
-      top-is = s .1;
-      room = rw (s .1) (ceiling-room L 1 (there .1));
-    }
-
--- a call of count up with k is done, and this is the highest level
+-- it is done, and this is the highest level
 pub record Granted (k : ℕ) (L : List ℕ) (top : ℕ) : Type 0 where
   pub number : callNumber k L ≡ 0
   pub faultless : Readable L
   pub top-is : top ≡ highest L
   pub room : top + k ≤ maxLevel
 
-pub call-granted : (k : ℕ) (L : List ℕ) {a : Judgement} → a ≡ callJudged L k → a .number ≡ 0 → Granted k L (a .top)
+pub judged-granted : (k : ℕ) (L : List ℕ) {a : Call} → a ≡ callJudged L k → a .number ≡ 0 → Granted k L (a .top)
 unfolding callJudged callNumber
-call-granted k L e z =
-    let s = judged-so L e z in
-    let past = orElse-done (readNumber L) (ceilingOf L k) (s .0) in
-    record { number = s .0; faultless = readable (past .0); top-is = s .1; room = rw (s .1) (ceiling-room L k (past .1)) }
+judged-granted k L e z =
+    let number : callNumber k L ≡ 0 = sym (ap (λ (a : Call). a .number) e) ∙ z in
+    let past = orElse-done (readNumber L) (ceilingOf L k) number in
+    let top = ap (λ (a : Call). a .top) e ∙ given-done (callNumber k L) (highest L) 0 number in
+    record { number = number; faultless = readable (past .0); top-is = top; room = rw top (ceiling-room L k (past .1)) }

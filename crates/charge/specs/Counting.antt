@@ -1,4 +1,4 @@
--- What a job that pushes is judged by, and what the steps of count up start from. Only inner contracts cite these. Assumes nothing.
+-- What a count-up call is judged by, and what its steps start from. Only inner contracts cite these. Assumes nothing.
 use mathlib.Core.Path.{_≡_}
 use mathlib.Core.Bool.{false}
 use mathlib.Core.List.{List}
@@ -9,19 +9,11 @@ use Rattle.theory.specs.Permutation.{row}
 use Rattle.theory.specs.Levels.{highest, tied, permutationOf}
 use Rattle.theory.specs.CountUp.{callNumber}
 use Rattle.theory.specs.Refusal.{given}
-use Rattle.charge.specs.Answers.{placeNumber}
-use Rattle.charge.specs.declared.judge.Judgement.{Judgement}
+use Rattle.charge.specs.declared.judge.Call.{Call}
 
--- a job's number, and the highest level beside a 0
-abbrev pub judgedBy : ℕ → List ℕ → Judgement
-judgedBy number L = record { number = number; top = given number (highest L) 0 }
-
--- of a push at place i, and of a call with k
-unfoldable pub placeJudged : List ℕ → ℕ → Judgement
-placeJudged L i = judgedBy (placeNumber L i) L
-
-unfoldable pub callJudged : List ℕ → ℕ → Judgement
-callJudged L k = judgedBy (callNumber k L) L
+-- the number of a call with k, and the highest level beside a 0
+unfoldable pub callJudged : List ℕ → ℕ → Call
+callJudged L k = record { number = callNumber k L; top = given (callNumber k L) (highest L) 0 }
 
 -- k steps from the levels L, whose permutation stands in the row, have room
 pub record Ready (L cells : List ℕ) (top k : ℕ) : Type 0 where

@@ -1,14 +1,13 @@
-// What a job on levels is judged by, before its first push: size, tie, the highest level, a push and a count-up call as a whole. And the lowest level, for runs.
+// What a job on levels is judged by, before its first push: size, tie, the highest level, and a count-up call as a whole. And the lowest level, for runs.
 ghost use mathlib.Core.Path.{_≡_};
 ghost use Prim.Native.Nat.{_≤_};
 ghost use lib.ListN.{length, drop};
 ghost use Rattle.theory.specs.Lists.{member};
 ghost use Rattle.theory.specs.Levels as meaning;
-ghost use Rattle.charge.specs.Counting.{placeJudged, callJudged};
+ghost use Rattle.charge.specs.Counting.{callJudged};
 use permutation::reasons::CEILING;
 use permutation::reasons::SIZE;
 use permutation::reasons::TIE;
-use permutation::reasons::VALUE;
 use permutation::reasons::size_within;
 
 // Is x a level at or after index `from`?
@@ -68,58 +67,28 @@ pub fn highest(levels: &[u16]) -> u16
     top
 }
 
-// What a job that pushes is judged by: its number and, where that is 0, the highest level.
-pub struct Judgement {
+// What a count-up call is judged by: its number and, where that is 0, the highest level.
+pub struct Call {
     pub number: u8,
     pub top: u16,
 }
 
-// A push at a place.
-pub fn judge_place(levels: &[u16], place: usize) -> Judgement
-    ensures { λ r. ⌜ r ≡ placeJudged (now (levels .entry)) place ⌝ }
-{
-    let number = read_number(levels);
-    if number != 0 {
-        return Judgement { number, top: 0 };
-    }
-    if place < 2 {
-        return Judgement {
-            number: VALUE,
-            top: 0,
-        };
-    }
-    if levels.len() < place {
-        return Judgement {
-            number: VALUE,
-            top: 0,
-        };
-    }
-    let top = highest(levels);
-    if top == 65535 {
-        return Judgement {
-            number: CEILING,
-            top: 0,
-        };
-    }
-    Judgement { number: 0, top }
-}
-
 // A count-up call by k. For other crates too.
-pub fn judge_call(levels: &[u16], k: u32) -> Judgement
+pub fn judge_call(levels: &[u16], k: u32) -> Call
     ensures { λ r. ⌜ r ≡ callJudged (now (levels .entry)) k ⌝ }
 {
     let number = read_number(levels);
     if number != 0 {
-        return Judgement { number, top: 0 };
+        return Call { number, top: 0 };
     }
     let top = highest(levels);
     if 65535 - (top as u32) < k {
-        return Judgement {
+        return Call {
             number: CEILING,
             top: 0,
         };
     }
-    Judgement { number: 0, top }
+    Call { number: 0, top }
 }
 
 // For other crates too.

@@ -5,16 +5,16 @@ use borrow.Author.Needs.{needs}
 use Rattle.theory.specs.CountUp.{countUp, callLevels}
 use Rattle.charge.specs.Answers.{callAnswer}
 use Rattle.charge.specs.Counting.{callJudged}
-use Rattle.charge.specs.declared.judge.Judgement.{Judgement}
+use Rattle.charge.specs.declared.judge.Call.{Call}
 use Rattle.charge.proofs.Sorting.{sorted-row}
-use Rattle.charge.proofs.Numbers.{Granted, call-granted, pushes-refused, pushes-done}
+use Rattle.charge.proofs.Numbers.{Granted, judged-granted, pushes-refused, pushes-done}
 use Rattle.charge.proofs.count_up.count_up.Statement.{statement}
 use Rattle.charge.proofs.count_up.count_up.Tie as tie
 
 -- past the test the call is done
 call : (c : tie.Else1)
     → let a = c .before .before .before .before .args in Granted (a .k) (a .levels .now) (c .before .judge-call .result .top)
-call c = call-granted _ _ (c .before .judge-call .ensures) (c .if1 .left)
+call c = judged-granted _ _ (c .before .judge-call .ensures) (c .if1 .left)
 
 abbrev past : tie.After-cells2 → tie.Else1
 past c = c .before .before .before .before .before
@@ -27,7 +27,7 @@ unfolding callJudged callAnswer callLevels
 returns c =
     let at = c .before .before in let a = at .before .before .before .args in
     pushes-refused (a .k) (a .levels .now) (countUp (a .k) (a .levels .now)) (c .no-pushes .ensures)
-    (ap (λ (a : Judgement). a .number) (at .judge-call .ensures)) (c .before .if1 .taken)
+    (ap (λ (a : Call). a .number) (at .judge-call .ensures)) (c .before .if1 .taken)
 
 sort-cells-requires : tie.Need-sort-cells-requires
 sort-cells-requires c κs = (call (c .before .before) .faultless .many, refl)

@@ -1,60 +1,90 @@
--- `charge::push_level::push_level` meets its contract: the judgement decides the number, and past it the sorted row has the cell. Assumes nothing.
-use mathlib.Core.Path.{_≡_, refl, ap}
+-- `charge::push_level::push_level` meets its contract: each test decides the number, and past them the sorted row has the cell. Assumes nothing.
+use mathlib.Core.Path.{_≡_, refl, sym, _∙_}
+use mathlib.Core.List.{List}
+use Prim.Native.Nat.{ℕ, _≤_}
 use native.Mathlib.Omega.{arith}
 use borrow.Author.Needs.{needs}
+use lib.ListN.{length}
 use Rattle.theory.specs.Permutation.{cellAt}
 use Rattle.theory.specs.Levels.{permutationOf, pushLevel}
-use Rattle.charge.specs.Answers.{placeAnswer, placeLevels}
-use Rattle.charge.specs.Counting.{placeJudged}
-use Rattle.charge.specs.declared.judge.Judgement.{Judgement}
+use Rattle.theory.proofs.Refusal.{Readable, readable}
+use Rattle.charge.specs.Answers.{noPushes, placeNumber, placeAnswer, placeLevels}
+use Rattle.charge.specs.declared.answers.Pushes.{Pushes}
 use Rattle.charge.proofs.Sorting.{sorted-row}
-use Rattle.charge.proofs.Numbers.{pushes-refused, pushes-done, PlaceGranted, place-granted}
+use Rattle.charge.proofs.Numbers.{pushes-refused, pushes-done, place-fault, place-low, place-high, place-ceiling, place-done}
 use Rattle.charge.proofs.Pushing.{PlacedCell, placed-cell, placed-push}
 use Rattle.charge.proofs.push_level.push_level.Statement.{statement}
 use Rattle.charge.proofs.push_level.push_level.Tie as tie
 
--- the points before: the start, and, once the row is sorted, the test
+-- the points before: the start, and, once the row is sorted, the tests
 abbrev entry : tie.Else1 → tie.Start
 entry c = c .before .before .before .before
 
-abbrev past : tie.After-wide → tie.Else1
-past c = c .before .before .before .before
+abbrev past : tie.After-cells → tie.Else3
+past c = c .before .before .before .before .before
 
--- past the test the push is granted, and the cell there
-granted : (c : tie.Else1)
-    → let a = entry c .args in PlaceGranted (a .levels .now) (a .place) (c .before .judge-place .result .top)
-granted c = place-granted _ _ (c .before .judge-place .ensures) (c .if1 .left)
+-- past the first test the levels have a permutation, and past the third there is the place
+faultless : (c : tie.Else1) → Readable (entry c .args .levels .now)
+faultless c = readable (sym (c .before .read-number .ensures) ∙ c .if1 .left)
 
+placed : (c : tie.Else3) → let a = entry (c .before .before) .args in Readable (a .levels .now) × (2 ≤ a .place) × (a .place ≤ length (a .levels .now))
+placed c = (faultless (c .before .before), c .before .if2 .left, c .if3 .left)
+
+-- the cell there
 cell : (c : tie.After-wide)
-    → let a = entry (past c) .args in PlacedCell (a .levels .now) (a .place) (c .wide .result)
+    → let a = entry (past (c .before .before) .before .before) .args in PlacedCell (a .levels .now) (a .place) (c .wide .result)
 cell c =
-    let g = granted (past c) in
-    placed-cell _ _ (omega (arith, g .low)) (g .high) (sorted-row _ (g .faultless .many) (c .before .sort-cells .ensures)) (c .wide .ensures)
+    let b = placed (past (c .before .before)) in
+    placed-cell _ _ (omega arith) (b .2) (sorted-row _ (b .0 .many) (c .before .sort-cells .ensures)) (c .wide .ensures)
+
+-- a refusal
+refuses : (L : List ℕ) (i : ℕ) {a : Pushes} {number : ℕ} → a ≡ noPushes number → number ≡ placeNumber L i → (number ≡ 0 → ⊥)
+    → (a ≡ placeAnswer L i) × (L ≡ placeLevels L i)
+unfolding placeAnswer placeLevels
+refuses L i = pushes-refused 1 L (pushLevel (cellAt i (permutationOf L)) L)
 
 same-length : tie.Need-same-length
 same-length c = search needs
 
 returns : tie.Need-returns
-unfolding placeJudged placeAnswer placeLevels
-returns c =
-    let a = c .before .before .before .before .before .args in
-    pushes-refused 1 (a .levels .now) (pushLevel (cellAt (a .place) (permutationOf (a .levels .now))) (a .levels .now))
-    (c .no-pushes .ensures) (ap (λ (a : Judgement). a .number) (c .before .before .judge-place .ensures)) (c .before .if1 .taken)
+returns c = let ne = c .before .if1 .taken in refuses _ _ (c .no-pushes .ensures) (place-fault _ _ (c .before .before .read-number .ensures) ne) ne
+
+same-length-2 : tie.Need-same-length-2
+same-length-2 c = search needs
+
+returns-2 : tie.Need-returns-2
+returns-2 c = refuses _ _ (c .no-pushes2 .ensures) (place-low _ _ (faultless (c .before .before)) (c .before .if2 .taken)) (λ z. omega arith)
+
+same-length-3 : tie.Need-same-length-3
+same-length-3 c = search needs
+
+returns-3 : tie.Need-returns-3
+returns-3 c =
+    refuses _ _ (c .no-pushes3 .ensures)
+    (place-high _ _ (faultless (c .before .before .before)) (c .before .before .if2 .left) (c .before .if3 .taken)) (λ z. omega arith)
+
+same-length-4 : tie.Need-same-length-4
+same-length-4 c = search needs
+
+returns-4 : tie.Need-returns-4
+returns-4 c =
+    let b = placed (c .before .before .before .before) in
+    refuses _ _ (c .no-pushes4 .ensures) (place-ceiling _ _ (b .0) (b .1) (b .2) (omega arith)) (λ z. omega arith)
 
 sort-cells-requires : tie.Need-sort-cells-requires
-sort-cells-requires c κs = (granted (c .before .before) .faultless .many, refl)
+sort-cells-requires c κs = (placed (past c) .0 .many, refl)
 
 sub-wide : tie.Need-sub-wide
-sub-wide c = omega (arith, granted (c .before .before .before) .low)
+sub-wide c = search needs
 
 array-read-wide : tie.Need-array-read-wide
-array-read-wide c = omega (arith, granted (c .before .before .before) .faultless .many, granted (c .before .before .before) .high)
+array-read-wide c = omega (arith, placed (past (c .before)) .0 .many)
 
 sub-levels : tie.Need-sub-levels
 sub-levels c = omega (arith, cell c .low)
 
 add-levels : tie.Need-add-levels
-add-levels c = omega (arith, granted (past c) .room)
+add-levels c = search needs
 
 mul-levels : tie.Need-mul-levels
 mul-levels c = omega (arith, cell c .high)
@@ -62,16 +92,17 @@ mul-levels c = omega (arith, cell c .high)
 slice-write-levels : tie.Need-slice-write-levels
 slice-write-levels c = omega (arith, cell c .low, cell c .high)
 
-same-length-2 : tie.Need-same-length-2
-same-length-2 c = search needs
+same-length-5 : tie.Need-same-length-5
+same-length-5 c = search needs
 
-returns-2 : tie.Need-returns-2
+returns-5 : tie.Need-returns-5
 unfolding placeAnswer placeLevels
-returns-2 c =
-    let g = granted (past (c .before)) in
-    let a = entry (past (c .before)) .args in
+returns-5 c =
+    let at = c .before .before .before in let top = at .before .before .before .highest in
+    let a = entry (past at .before .before) .args in
+    let b = placed (past at) in
     pushes-done 1 (a .levels .now) (pushLevel (cellAt (a .place) (permutationOf (a .levels .now))) (a .levels .now)) (c .done-pushes .ensures)
-    (g .number) (placed-push (cell (c .before)) (g .top-is))
+    (place-done _ _ (b .0) (b .1) (b .2) (omega (arith, top .ok, top .ensures))) (placed-push (cell (c .before)) (top .ensures))
 
 pub push-level-spec : {M : Type 1} → statement M
 push-level-spec =
@@ -81,6 +112,16 @@ push-level-spec =
     (λ c κs. tt)
     same-length
     returns
+    (λ c κs. tt)
+    same-length-2
+    returns-2
+    (λ c κs. tt)
+    same-length-3
+    returns-3
+    (λ c κs. tt)
+    (λ c κs. tt)
+    same-length-4
+    returns-4
     sort-cells-requires
     sub-wide
     array-read-wide
@@ -90,5 +131,5 @@ push-level-spec =
     mul-levels
     slice-write-levels
     (λ c κs. tt)
-    same-length-2
-    returns-2)
+    same-length-5
+    returns-5)

@@ -8,7 +8,7 @@ use Rattle.theory.specs.CountUp.{callNumber}
 use Rattle.permutation.specs.declared.answers.Permuted.{Permuted}
 use Rattle.ranking.specs.declared.answers.Ranked.{Ranked}
 use Rattle.charge.specs.Counting.{callJudged}
-use Rattle.charge.specs.declared.judge.Judgement.{Judgement}
+use Rattle.charge.specs.declared.judge.Call.{Call}
 use Rattle.runs.proofs.LevelRunning.{RunningLevels, levels-none, levels-long, step-granted, step-inside, levels-more}
 use Rattle.runs.proofs.LevelRunning.{ran-levels-left, levels-left, levels-of, ran-levels-refused}
 use Rattle.runs.proofs.level_steps.run_levels.Statement.{statement}
@@ -31,7 +31,7 @@ looped c = c .before .before .before .before .before
 -- the number is that of a count-up call
 number-is : (c : tie.After-judge-call Inv-loop μ-loop) → c .judge-call .result .number ≡ callNumber (entry c .args .k) (entry c .args .levels .now)
 unfolding callJudged
-number-is c = ap (λ (a : Judgement). a .number) (c .judge-call .ensures)
+number-is c = ap (λ (a : Call). a .number) (c .judge-call .ensures)
 
 same-length : tie.Need-same-length Inv-loop μ-loop
 same-length c = search needs
