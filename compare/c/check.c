@@ -103,6 +103,8 @@ static void check_symbols(void) {
     uint16_t levels[4] = {4, 3, 2, 1}, high[4] = {65535, 3, 2, 1}, tied[4] = {4, 3, 4, 1};
     const uint16_t after[4] = {4, 3, 5, 1}, high_before[4] = {65535, 3, 2, 1};
     CHECK(pushes(tm_store(levels, 4, 12, 6), TM_DONE, 1) && memcmp(levels, after, sizeof levels) == 0);
+    /* document 02, request 1: symbol 6 stands now, on [3,1,2,4] */
+    CHECK(pushes(tm_store(levels, 4, 12, 6), TM_DONE, 0) && memcmp(levels, after, sizeof levels) == 0);
     tm_symbol symbol = tm_read_symbol(levels, 4, 12), idle = tm_read_symbol(levels, 4, 6), outside = tm_read_symbol(levels, 4, 25);
     CHECK(symbol.number == TM_DONE && symbol.symbol == 6);
     CHECK(idle.number == TM_IDLE && idle.symbol == 0 && outside.number == TM_VALUE && outside.symbol == 0);

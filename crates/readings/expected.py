@@ -1,7 +1,7 @@
 #!/usr/bin/env python3
-"""What the program `readings` must write for its `stdin`, worked out from documents 01 and 001 alone, by `model.py`.
+"""What the program `readings` must write for its `stdin`, worked out from documents 01, 02 and 001 alone, by `model.py`.
 
-What the two documents print is typed below as data: the model is checked against it, and `stdin` must have those readings, before a line is written.
+What the documents print is typed below as data: the model is checked against it, and `stdin` must have those readings, before a line is written.
 
     python3 crates/readings/expected.py > crates/readings/stdout
 """
@@ -62,6 +62,8 @@ SHEET_LEVELS, SHEET_RANK = [7, 6, 8], 5
 REWRITE = ([1, 2, 3, 4, 5], [5, 2, 1, 3, 4], [2, 5])
 LENGTHS = {4: 1, 5: 2, 12: 2, 13: 3}
 PREFIX, PREFIX_NUMBER = [3, 1], 6
+# Document 02, request 1: an order on which symbol 6 of 12 needs no push
+STANDING = [3, 1, 2, 4]
 
 # Document 001. The text at hand has no pictures: of Example 1 it has the places, of Example 9 and Fig. 2 what is said of them, of the levels in Fig. 3 no numbers.
 EXAMPLE_1 = [2, 3, 3, 2, 3, 3]
@@ -168,6 +170,22 @@ def check_symbols(lines):
                 assert after == prefix + [c for c in order if c not in prefix] and symbol_of(m, after) == s
 
 
+def check_stores(lines):
+    # document 02, request 1: the setting that stands, and at the cap too
+    for levels in (gapless(STANDING), [9, 4, 65535, 0]):
+        assert read(levels) == STANDING and do_store(PREFIX_NUMBER, 12, *levels) == [0, 0, "|", *levels]
+        assert " ".join(map(str, ["store 6 of 12 on", *levels])) in lines
+    # "no shorter row of pushes reaches any order with that prefix"; the prefixes of every code are among these
+    for n in range(2, 5):
+        for order in permutations(range(1, n + 1)):
+            found = costs([*order])
+            for prefix in (prefix for p in range(n + 1) for prefix in permutations(range(1, n + 1), p)):
+                cells = store_pushes([*order], [*prefix])
+                assert len(cells) == min(cost for after, cost in found.items() if after[:len(prefix)] == prefix)
+                assert read(push_cells(gapless([*order]), cells)) == [*prefix] + [c for c in order if c not in prefix]
+                assert (cells == []) == (order[:len(prefix)] == prefix)
+
+
 def check_document_001(lines):
     # Example 1: "a Gray code regardless of the choice of the first column"; from rank 5 on document 01's steps push at these places
     for first in permutations([1, 2, 3]):
@@ -245,6 +263,7 @@ lines = Path(__file__).with_name("stdin").read_text().splitlines()
 check_document_01({*lines})
 check_document_001({*lines})
 check_symbols({*lines})
+check_stores({*lines})
 check_runs({*lines})
 for line in lines:
     print(answer(line))

@@ -1,8 +1,8 @@
-"""A model of document 01's rules on lists, as the paper words them; nothing of the code. `expected.py` checks it against what documents 01 and 001
-print; the sheets of `sheets` are worked by it too."""
+"""A model of document 01's rules on lists, as the paper words them, with the storing rule of document 02's request 1 in place of its own; nothing of the
+code. `expected.py` checks it against what documents 01, 02 and 001 print; the sheets of `sheets` are worked by it too."""
 from math import factorial, perm
 
-# The rules of document 01. An order is a list of names, place 1 first.
+# The rules of document 01; that of storing is document 02's. An order is a list of names, place 1 first.
 
 
 def push(order, i):
@@ -68,10 +68,6 @@ def count_up(levels, k):
     return levels
 
 
-def push_cell(order, cell):
-    return push(order, order.index(cell) + 1)
-
-
 def push_cells(levels, cells):
     for cell in cells:
         levels = push_level(levels, read(levels).index(cell) + 1)
@@ -116,14 +112,14 @@ def symbol_of(m, order):
     return prefix_number(sorted(order), order[:prefix_length(len(order), m)])
 
 
+def store_count(order, prefix):
+    """Document 02, request 1: the smallest r for which the order, with the prefix's first r cells taken out, begins with the rest of the prefix."""
+    return next(r for r in range(len(prefix) + 1) if [c for c in order if c not in prefix[:r]][:len(prefix) - r] == prefix[r:])
+
+
 def store_pushes(order, prefix):
-    """The prefix cells p, p-1, ..., 1: a cell already on top is passed over, any other is pushed."""
-    cells = []
-    for cell in prefix[::-1]:
-        if order[0] != cell:
-            order = push_cell(order, cell)
-            cells.append(cell)
-    return cells
+    """The prefix's cells r to 1."""
+    return prefix[:store_count(order, prefix)][::-1]
 
 
 # Why a job is sent back: the lowest of the numbers whose reason holds, 0 where none does.

@@ -1,5 +1,5 @@
 #!/usr/bin/env python3
-"""The sheets of the program `sheets` and what it must write for them, worked out from document 01 alone.
+"""The sheets of the program `sheets` and what it must write for them, worked out from documents 01 and 02 alone.
 
 The sheets are made below: `data/` gets their bytes, `args` their names, and `stdout` each name and the text after it; some go to `sheets/` at
 the root as examples. The text comes from a reader of bytes that follows document 01, "The bench sheet", and from the rules in the model of
@@ -193,6 +193,8 @@ GOOD = {
     "refused-then-done": sheet([THREE, TWO],
                                [rewrite(0, 1, 1, 1), count(0, 4), store(0, 7, 0), rewrite(0, 3, 1, 2), count(1, 65534), count(1, 65533), count(1, 1), count(0, 2)]),
     "all-refused": sheet([group(65535, 2)], [count(0, 1), rewrite(0, 2, 1), rewrite(0, 2, 2), store(0, 2, 1), store(0, 2, 2), store(0, 3, 0)]),
+    # document 02, request 1: symbol 6 of 12 stands on [3,1,2,4], at the cap, where symbol 1 needs a push, and where it was just stored
+    "store-no-pushes": sheet([group(9, 4, 65535, 0), FOUR], [store(0, 12, 6), store(0, 12, 1), store(1, 12, 6), store(1, 12, 6)]),
 }
 
 EXAMPLES = ["paper", "every-size", "by-turns", "refused-then-done", "thousand-counts", "longest", "tie-last", "one-byte-after"]

@@ -1,4 +1,4 @@
-//! Support for differential tests: the exported functions beside the independent model of document 01.
+//! Support for differential tests: the exported functions beside the independent model.
 #![forbid(unsafe_code)]
 
 pub mod cases;

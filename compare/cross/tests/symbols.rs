@@ -181,6 +181,28 @@ fn stores_that_just_fit_below_the_ceiling_and_just_do_not() {
     cross.met(&[0, 6, 7]);
 }
 
+/// The first r cells of the prefix on top are put anywhere: no more than r pushes bring it back, and a second store, at the ceiling, needs none.
+#[test]
+fn settings_that_stand_and_that_stand_in_part() {
+    let (mut cross, mut random) = (Cross::default(), Random::seeded(327));
+    for (n, p) in (2..=20).flat_map(|n| (0..n).flat_map(move |p| [(n, p); 12])) {
+        let mut names = random.names(n);
+        let m = falling(n, p);
+        let symbol = model::read_symbol(&random.levels(&names, 1000), m).unwrap();
+        let r = random.index(p + 1);
+        let taken: Vec<u8> = names.drain(..r).collect();
+        taken.into_iter().for_each(|cell| names.insert(random.index(names.len() + 1), cell));
+        assert!(model::store(&mut random.levels(&names, 1000), m, symbol).unwrap() <= r as u32, "the pushes on {names:?}");
+        let levels = tops(&names, |low| model::store(low, m, symbol)).map(|top| random.levels(&names, top));
+        let mut after = store(&mut cross, &levels[0], m, symbol).unwrap();
+        assert_eq!(after.iter().max(), Some(&CEILING));
+        assert_eq!(store(&mut cross, &after, m, symbol).as_ref(), Some(&after), "a second store");
+        assert_eq!(turretmedlar::store(&mut after, m, symbol), Ok(0), "the pushes of a second store");
+        store(&mut cross, &levels[1], m, symbol);
+    }
+    cross.met(&[0, 6]);
+}
+
 #[test]
 fn several_reasons_against_a_store() {
     let (mut cross, mut random) = (Cross::default(), Random::seeded(325));

@@ -1,6 +1,6 @@
-//! A model of document 01 in plain Rust: the other side of differential tests, and the plain side of benchmarks.
+//! A model of document 01, with request 1 of document 02, in plain Rust: the other side of differential tests, and the plain side of benchmarks.
 //!
-//! It is written from the sentences of document 01 alone, with lists, sorting and searching, and keeps no table.
+//! It is written from the sentences of these documents alone, with lists, sorting and searching, and keeps no table.
 //! Every input is legal. A refused job gives its reason and leaves all lent lists as they were.
 
 #![forbid(unsafe_code)]

@@ -44,25 +44,23 @@ pub(crate) fn number_of_prefix(n: usize, prefix: &[u8]) -> u64 {
     number
 }
 
-/// "Storing s handles its prefix cells p, p-1, ..., 1: a cell already on top is passed over, any other is pushed.
-/// The count is of pushes done."
+/// Document 02, request 1: "Storing shall use the smallest r for which the order, with the prefix's first r cells taken out, begins with the rest of the
+/// prefix; then cells r to 1 are pushed." "Ceiling is judged on the new number, and this replaces the storing rule of document 01."
 pub fn store(levels: &mut [u16], m: u64, symbol: u64) -> Result<u32, Reason> {
     let names = names_by_level(levels)?;
     let n = names.len();
     check_code(n, m)?;
     refuse_if(symbol >= m, Reason::Value)?;
-    let mut on_top = names[0];
-    let mut pushed = Vec::with_capacity(n);
-    for cell in prefix_of_symbol(n, prefix_length(n, m), symbol).into_iter().rev() {
-        if cell != on_top {
-            on_top = cell;
-            pushed.push(cell);
-        }
+    let prefix = prefix_of_symbol(n, prefix_length(n, m), symbol);
+    let mut left = names;
+    let mut r = 0;
+    while !left.starts_with(&prefix[r..]) {
+        left.retain(|&cell| cell != prefix[r]);
+        r += 1;
     }
-    let count = pushed.len() as u32;
-    check_ceiling(levels, count)?;
-    push_cells(levels, pushed);
-    Ok(count)
+    check_ceiling(levels, r as u32)?;
+    push_cells(levels, prefix[..r].iter().rev().copied());
+    Ok(r as u32)
 }
 
 /// "Reading gives the symbol whose prefix leads the order." Refused: "the order's prefix has number m or higher".

@@ -3,7 +3,8 @@ pub mod Lengths
 pub mod Writing
 pub mod Choosing
 pub mod Prefixing
-pub mod PassedOver
+pub mod Along
+pub mod Leading
 pub mod Storing
 pub mod PrefixDigits
 pub mod Symbols

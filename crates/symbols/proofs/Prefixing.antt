@@ -1,25 +1,30 @@
--- What each way out of the prefix of a symbol answers: a number where there is none, or the row of its cells. Assumes nothing.
-use mathlib.Core.Path.{_≡_}
+-- What each way out of the row of a symbol answers: a number where there is none, or its prefix with the other names behind it; and its prefix alone.
+-- Assumes nothing.
+use mathlib.Core.Path.{_≡_, refl, sym, _∙_}
 use mathlib.Core.Bool.{true, cond, _&&_, and-false, and-eq-true-iff}
-use mathlib.Core.List.{List, _++_}
+use mathlib.Core.List.{List, _++_, append-assoc}
 use Prim.Native.Nat.{ℕ, _≤_, _<_}
 use native.Mathlib.Omega.{arith}
 use borrow.Author.Tests.{ne-eqb, leb-true, le-leb, lt-leb, ltb-true, lt-ltb, le-ltb}
 use lib.Dec.{leb, ltb}
 use lib.ListN.{length, take, drop, replicate, length-append, length-drop}
-use lib.Seq.{take-at}
+use lib.Seq.{take-at, drop-at}
 use Rattle.theory.specs.Reasons.{done, size, value}
 use Rattle.theory.specs.Refusal.{sizeOf}
 use Rattle.theory.specs.Factorial.{factorial, falling}
-use Rattle.theory.specs.Permutation.{row}
+use Rattle.theory.specs.Permutation.{IsPermutation, row}
 use Rattle.theory.specs.Lists.{names, without}
 use Rattle.theory.specs.Prefix.{IsPrefix, prefixAt, prefixLength, symbolPrefix}
 use Rattle.theory.proofs.Refusal.{orElse-refused, orElse-done, tested, size-done, size-range}
 use Rattle.theory.proofs.Factorials.{falling-quotient}
-use Rattle.theory.proofs.Names.{names-length}
-use Rattle.theory.proofs.Numbering.{over-length}
+use Rattle.theory.proofs.Cases.{by-name}
+use Rattle.theory.proofs.Padding.{padding}
+use Rattle.theory.proofs.FilledRow.{over-row}
+use Rattle.theory.proofs.Names.{names-length, names-permutation}
 use Rattle.theory.proofs.Prefixes.{names-distinct, prefix-over, prefixAt-prefix, coding}
+use Rattle.theory.proofs.Storing.{others-below}
 use Rattle.symbols.specs.Answers.{coded, codeNumber, prefixAnswer}
+use Rattle.symbols.specs.AnyPrefix.{rowAnswer}
 use Rattle.symbols.specs.declared.answers.Prefixed.{Prefixed}
 use Rattle.symbols.proofs.Writing.{cleared}
 
@@ -32,9 +37,9 @@ abbrev none : ℕ → Prefixed
 none k = record { number = k; length = 0; cells = zeros }
 
 module _ (n m s : ℕ) where
-  pub prefix-refused : {number : ℕ} → number ≡ codeNumber n m s → (number ≡ 0 → ⊥) → none number ≡ prefixAnswer n m s
-  unfolding prefixAnswer
-  prefix-refused e ne = rw (← e, ne-eqb _ 0 ne)
+  pub row-refused : {number : ℕ} → number ≡ codeNumber n m s → (number ≡ 0 → ⊥) → none number ≡ rowAnswer n m s
+  unfolding rowAnswer
+  row-refused e ne = rw (← e, ne-eqb _ 0 ne)
 
   pub size-reason : size ≡ sizeOf n → size ≡ codeNumber n m s
   unfolding codeNumber
@@ -84,6 +89,12 @@ module _ {n m s : ℕ} (v : Coded n m s) {p : ℕ} (e : p ≡ prefixLength n m) 
   is-prefix : IsPrefix n p (prefixAt n p s)
   is-prefix = prefixAt-prefix n p s fits
 
+  -- with the other names behind it all cells are there
+  pub row-permutation : IsPermutation n (prefixAt n p s ++ without (prefixAt n p s) (names n))
+  row-permutation =
+      let k = others-below (names n) (names-distinct n) (prefixAt n p s) (is-prefix .distinct) (prefix-over is-prefix .named) in
+      names-permutation (k .long ∙ names-length 1 n) (k .distinct) (λ c. sym (k .same c))
+
   -- the row: the names and zeros,
   module _ {named : List ℕ} (named-is : named ≡ names n ++ drop n zeros) where
     pub named-long : length named ≡ 20
@@ -94,15 +105,36 @@ module _ {n m s : ℕ} (v : Coded n m s) {p : ℕ} (e : p ≡ prefixLength n m) 
 
     -- then the prefix and the names that are left,
     module _ {led : List ℕ} (led-is : led ≡ prefixAt n p s ++ (without (prefixAt n p s) (names n) ++ drop n named)) where
-      pub led-long : length led ≡ 20
-      led-long =
-          rw (led-is, length-append, length-append, length-drop n named, named-long)
-          (omega (arith, v .many, over-length (names n) (prefixAt n p s) (names-distinct n) (prefix-over is-prefix), names-length 1 n))
+      led-row : led ≡ row (prefixAt n p s ++ without (prefixAt n p s) (names n))
+      led-row =
+          let q : List ℕ = prefixAt n p s in
+          let past : drop n named ≡ drop n zeros = rw named-is (drop-at (names n) (drop n zeros) n (names-length 1 n)) in
+          led-is ∙ rw past (sym (append-assoc q (without q (names n)) (drop n zeros)) ∙ over-row 20 0 (q ++ without q (names n)) (row-permutation .long) (v .many))
 
-      -- then the prefix and zeros
-      led-cleared : cleared p led ≡ row (prefixAt n p s)
-      led-cleared = rw (led-is, take-at (prefixAt n p s) (without (prefixAt n p s) (names n) ++ drop n named) p (is-prefix .long), is-prefix .long)
+      pub row-done : _≡_ {A = Prefixed} (record { number = 0; length = p; cells = led }) (rowAnswer n m s)
+      unfolding rowAnswer symbolPrefix
+      row-done = rw (led-row, e, prefix-done v)
 
-      pub coded-done : {cells : List ℕ} → cells ≡ cleared p led → _≡_ {A = Prefixed} (record { number = 0; length = p; cells = cells }) (prefixAnswer n m s)
-      unfolding prefixAnswer symbolPrefix
-      coded-done is = rw (is, led-cleared, prefix-done v, e)
+-- ---- its prefix alone
+
+module _ (n m s : ℕ) {found : Prefixed} (e : found ≡ rowAnswer n m s) where
+  pub row-lengths : (found .length ≤ 20) × (length (found .cells) ≡ 20)
+  unfolding rowAnswer symbolPrefix
+  row-lengths =
+      rw e (by-name (codeNumber n m s) 0
+      (λ z t.
+      let v = in-range z in
+      let q : List ℕ = symbolPrefix n m s in
+      rw t (omega (arith, short v refl, v .many), padding (q ++ without q (names n)) (omega (arith, row-permutation v refl .long, v .many)) .long))
+      (λ ne t. rw t (omega arith, refl)))
+
+  pub row-cleared : {cells : List ℕ} → cells ≡ cleared (found .length) (found .cells)
+      → _≡_ {A = Prefixed} (record { number = found .number; length = found .length; cells = cells }) (prefixAnswer n m s)
+  unfolding rowAnswer prefixAnswer symbolPrefix
+  row-cleared is =
+      rw (is, e) (by-name (codeNumber n m s) 0
+      (λ z t.
+      let q : List ℕ = symbolPrefix n m s in
+      let long : length q ≡ prefixLength n m = is-prefix (in-range z) refl .long in
+      rw (t, append-assoc q (without q (names n)) _, take-at q _ (prefixLength n m) long, long))
+      (λ ne t. rw t refl))

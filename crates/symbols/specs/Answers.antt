@@ -2,13 +2,14 @@
 use mathlib.Core.Path.{_≡_}
 use mathlib.Core.Bool.{Bool, cond, _&&_}
 use mathlib.Core.List.{List, [], _++_}
-use Prim.Native.Nat.{ℕ}
+use Prim.Native.Nat.{ℕ, _≤_}
 use lib.Dec.{leb, ltb}
-use lib.ListN.{length}
+use lib.ListN.{length, take}
 use Rattle.theory.specs.Reasons.{done, value, idle}
 use Rattle.theory.specs.Lists.{without}
 use Rattle.theory.specs.Factorial.{factorial}
 use Rattle.theory.specs.Permutation.{row}
+use Rattle.theory.specs.Push.{pushes, Places}
 use Rattle.theory.specs.Levels.{permutationOf, pushLevels, readNumber}
 use Rattle.theory.specs.CountUp.{ceilingOf}
 use Rattle.theory.specs.Prefix.{prefixLength, symbolPrefix, symbolOf}
@@ -40,21 +41,31 @@ prefixAnswer n m s = record {
 abbrev pub prefixOn : List ℕ → ℕ → ℕ → List ℕ
 prefixOn L m s = symbolPrefix (length L) m s
 
--- "The count is of pushes done", by the theory's storing rule for a prefix q
+-- "the smallest r" of the storing rule, for a prefix q on the permutation of L
 abbrev pub pushesFor : List ℕ → List ℕ → ℕ
 pushesFor L q = storeCount q (permutationOf L)
 
--- size and tie, value, then ceiling
-unfoldable pub storeNumber : List ℕ → ℕ → ℕ → ℕ
-storeNumber L m s = orElse (readNumber L) (orElse (codeNumber (length L) m s) (ceilingOf L (pushesFor L (prefixOn L m s))))
+-- a prefix q stored on L: size and tie; the number of the code that q is of; then ceiling, which "is judged on the new number"
+unfoldable pub leadNumber : ℕ → List ℕ → List ℕ → ℕ
+leadNumber code L q = orElse (readNumber L) (orElse code (ceilingOf L (pushesFor L q)))
 
--- "Count up, rewrite and store, when done, give their number of pushes: [..] the count told below"
-unfoldable pub storeAnswer : List ℕ → ℕ → ℕ → Pushes
-storeAnswer L m s = pushesOf (storeNumber L m s) (pushesFor L (prefixOn L m s))
+-- "Count up, rewrite and store, when done, give their number of pushes"
+unfoldable pub leadAnswer : ℕ → List ℕ → List ℕ → Pushes
+leadAnswer code L q = pushesOf (leadNumber code L q) (pushesFor L q)
 
--- "a cell already on top is passed over, any other is pushed"
-unfoldable pub storeLevels : List ℕ → ℕ → ℕ → List ℕ
-storeLevels L m s = given (storeNumber L m s) (pushLevels (storePushes (prefixOn L m s) (permutationOf L)) L) L
+-- "then cells r to 1 are pushed"
+unfoldable pub leadLevels : ℕ → List ℕ → List ℕ → List ℕ
+leadLevels code L q = given (leadNumber code L q) (pushLevels (storePushes q (permutationOf L)) L) L
+
+-- a symbol is stored by its prefix
+abbrev pub storeNumber : List ℕ → ℕ → ℕ → ℕ
+storeNumber L m s = leadNumber (codeNumber (length L) m s) L (prefixOn L m s)
+
+abbrev pub storeAnswer : List ℕ → ℕ → ℕ → Pushes
+storeAnswer L m s = leadAnswer (codeNumber (length L) m s) L (prefixOn L m s)
+
+abbrev pub storeLevels : List ℕ → ℕ → ℕ → List ℕ
+storeLevels L m s = leadLevels (codeNumber (length L) m s) L (prefixOn L m s)
 
 -- size and tie, value, then idle: "reading: the order's prefix has number m or higher"
 unfoldable pub symbolNumber : List ℕ → ℕ → ℕ
@@ -68,9 +79,14 @@ symbolAnswer L m = record {
   symbol = given (symbolNumber L m) (symbolOf (length L) m (permutationOf L)) 0;
 }
 
--- a store of symbol s of m on L that was done and left L′
-pub record StoreOf (L : List ℕ) (m s : ℕ) (L′ : List ℕ) : Type 0 where
+-- a prefix q was stored on L by r pushes, which left L′
+pub record LedBy (q L L′ : List ℕ) (r : ℕ) : Type 0 where
   -- the permutation then read: the prefix, and below it the other cells in their old sequence
-  pub read : readAnswer L′ ≡ permuted 0 (prefixOn L m s ++ without (prefixOn L m s) (permutationOf L))
-  -- the symbol is read back, under the same m
+  pub read : readAnswer L′ ≡ permuted 0 (q ++ without q (permutationOf L))
+  -- "no shorter row of pushes reaches any order with that prefix"
+  pub fewest : (is : List ℕ) → Places (length L) is → take (length q) (pushes is (permutationOf L)) ≡ q → r ≤ length is
+
+-- a symbol s of m was, and is read back under the same m
+pub record StoreOf (L : List ℕ) (m s : ℕ) (L′ : List ℕ) (r : ℕ) : Type 0 where
+  pub led : LedBy (prefixOn L m s) L L′ r
   pub read-back : symbolAnswer L′ m ≡ record { number = 0; symbol = s }

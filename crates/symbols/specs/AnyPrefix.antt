@@ -1,34 +1,36 @@
--- Storing any prefix q on levels that have a permutation: its answer, what it leaves, and what it asks for. Only inner contracts cite these. Assumes nothing.
+-- A prefix with the other cells behind it, in a row of twenty, and from where on it stands, by the levels along the row. Only inner contracts cite these.
+-- Assumes nothing.
 use mathlib.Core.Path.{_≡_}
-use mathlib.Core.List.{List, _++_}
-use Prim.Native.Nat.{ℕ}
-use lib.ListN.{length, take}
+use mathlib.Core.List.{List, [], _++_}
+use Prim.Native.Nat.{ℕ, suc, _-_, _≤_, _<_}
+use lib.ListN.{length, getD, take, drop}
 use Rattle.theory.specs.Refusal.{given}
-use Rattle.theory.specs.Lists.{without}
-use Rattle.theory.specs.Permutation.{row}
-use Rattle.theory.specs.Levels.{readNumber, permutationOf, pushLevels}
-use Rattle.theory.specs.CountUp.{ceilingOf}
-use Rattle.theory.specs.Prefix.{IsPrefix}
-use Rattle.theory.specs.Store.{storePushes}
-use Rattle.permutation.specs.Answers.{permuted}
-use Rattle.charge.specs.Answers.{pushesOf, readAnswer}
-use Rattle.charge.specs.declared.answers.Pushes.{Pushes}
-use Rattle.symbols.specs.Answers.{pushesFor}
+use Rattle.theory.specs.Lists.{names, without}
+use Rattle.theory.specs.Permutation.{IsPermutation, row}
+use Rattle.theory.specs.Levels.{highest}
+use Rattle.theory.specs.Prefix.{prefixLength, symbolPrefix}
+use Rattle.symbols.specs.Answers.{codeNumber}
+use Rattle.symbols.specs.declared.answers.Prefixed.{Prefixed}
 
--- the levels have a permutation, which stands in a row, and the first p cells of the other row are a prefix
-pub record Storable (L cells prefix : List ℕ) (p : ℕ) : Type 0 where
-  pub readable : readNumber L ≡ 0
-  pub cells-are : cells ≡ row (permutationOf L)
-  pub long : length prefix ≡ 20
-  pub is-prefix : IsPrefix (length L) p (take p prefix)
+-- as `prefixAnswer`, with the other names, ascending, behind the prefix
+unfoldable pub rowAnswer : ℕ → ℕ → ℕ → Prefixed
+rowAnswer n m s = record {
+  number = codeNumber n m s;
+  length = given (codeNumber n m s) (prefixLength n m) 0;
+  cells = row (given (codeNumber n m s) (symbolPrefix n m s ++ without (symbolPrefix n m s) (names n)) []);
+}
 
--- done, or ceiling
-unfoldable pub prefixPushes : List ℕ → List ℕ → Pushes
-prefixPushes L q = pushesOf (ceilingOf L (pushesFor L q)) (pushesFor L q)
+-- the cells of L lead the row, each once; its first p are a prefix, and others follow it
+pub record Storable (L cells : List ℕ) (p : ℕ) : Type 0 where
+  pub few : 2 ≤ length L
+  pub many : length L ≤ 20
+  pub long : length cells ≡ 20
+  pub permutation : IsPermutation (length L) (take (length L) cells)
+  pub short : p < length L
 
-unfoldable pub prefixLevels : List ℕ → List ℕ → List ℕ
-prefixLevels L q = given (ceilingOf L (pushesFor L q)) (pushLevels (storePushes q (permutationOf L)) L) L
-
--- q was stored on L, which left L′: the permutation then read is the prefix, and below it the other cells in their old sequence
-pub record LedBy (q L L′ : List ℕ) : Type 0 where
-  pub read : readAnswer L′ ≡ permuted 0 (q ++ without q (permutationOf L))
+-- the first p of levels along a row stand from the r-th on: each after it is above all that come behind, and r is the smallest number for which that is so
+pub record StandsFrom (along : List ℕ) (p r : ℕ) : Type 0 where
+  pub short : p < length along
+  pub within : r ≤ p
+  pub above : (j : ℕ) → r ≤ j → j < p → highest (drop (suc j) along) < getD along j 0
+  pub smallest : 0 < r → getD along (r - 1) 0 ≤ highest (drop r along)

@@ -1,5 +1,4 @@
 -- The meanings that the contracts cite: first those that a reader of the public contracts needs, then those of the inner ones.
 pub mod Answers
 pub mod AnyPrefix
-pub mod PassedOver
 pub mod PrefixDigits

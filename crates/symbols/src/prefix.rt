@@ -7,6 +7,7 @@ ghost use Rattle.theory.specs.Factorial as factorials;
 ghost use Rattle.theory.specs.Lists.{names, without};
 ghost use Rattle.theory.specs.Prefix as meaning;
 ghost use Rattle.symbols.specs.Answers.{prefixAnswer};
+ghost use Rattle.symbols.specs.AnyPrefix.{rowAnswer};
 use super::answers::Prefixed;
 use super::prefix_length::falling;
 use super::prefix_length::prefix_length;
@@ -70,8 +71,9 @@ fn no_prefix(number: u8) -> Prefixed
     }
 }
 
-pub fn prefix(n: usize, m: u64, symbol: u64) -> Prefixed
-    ensures { λ r. ⌜ r ≡ prefixAnswer n m symbol ⌝ }
+// As `prefix` answers, but that the other names, ascending, stand between the prefix and the zeros. For `store`.
+pub fn prefix_row(n: usize, m: u64, symbol: u64) -> Prefixed
+    ensures { λ r. ⌜ r ≡ rowAnswer n m symbol ⌝ }
 {
     if size_within(n) == 0 {
         return no_prefix(SIZE);
@@ -89,10 +91,22 @@ pub fn prefix(n: usize, m: u64, symbol: u64) -> Prefixed
     let mut cells = [0u8; 20];
     name_cells(&mut cells, n);
     choose(&mut cells, n, length, count, symbol);
-    clear_from(&mut cells, length);
     Prefixed {
         number: 0,
         length,
+        cells,
+    }
+}
+
+pub fn prefix(n: usize, m: u64, symbol: u64) -> Prefixed
+    ensures { λ r. ⌜ r ≡ prefixAnswer n m symbol ⌝ }
+{
+    let found = prefix_row(n, m, symbol);
+    let mut cells = found.cells;
+    clear_from(&mut cells, found.length);
+    Prefixed {
+        number: found.number,
+        length: found.length,
         cells,
     }
 }

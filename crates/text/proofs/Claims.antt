@@ -11,7 +11,7 @@ use Rattle.theory.specs.Rank.{digit, remaining, rank}
 use Rattle.permutation.specs.Records.{onceEach, allZero, recordNumber}
 use Rattle.charge.specs.Answers.{callAnswer}
 use Rattle.rewriting.specs.Answers.{targetNumber, rewriteNumber, rewriteAnswer, rewriteLevels}
-use Rattle.symbols.specs.Answers.{storeAnswer, storeLevels, storeNumber, codeNumber}
+use Rattle.symbols.specs.Answers.{leadAnswer, leadLevels, leadNumber, codeNumber}
 use Rattle.sheet.proofs.Claims.{sheets}
 use Rattle.layout.specs.Text.{textOf, line, places, decimal, commandLine, commandLines, groupLine, groupLines}
 use Rattle.text.specs.Claims.{Texts}
@@ -22,5 +22,5 @@ unfolding
     textOf line places decimal commandLine commandLines groupLine groupLines answers groupsAfterAll
     callAnswer callNumber callPushes callLevels countUp nextCell pushLevel insertByLevel sortByLevel permutationOf successor smaller placeOf
     rewriteAnswer rewriteLevels rewriteNumber targetNumber rewriteCount rewritePushes readNumber recordNumber onceEach allZero push
-    storeAnswer storeLevels storeNumber codeNumber digit remaining rank delta
+    leadAnswer leadLevels leadNumber codeNumber digit remaining rank delta
 texts = record { example = ap textOf (sheets .example); decided = λ s. ap textOf (sheets .decided s) }

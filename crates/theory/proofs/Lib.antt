@@ -31,7 +31,7 @@ pub mod Sublists
 pub mod Rewriting
 pub mod Numbering
 pub mod Prefixes
-pub mod Passing
 pub mod Storing
 pub mod Readings
+pub mod Examples
 pub mod Theory

@@ -53,6 +53,11 @@ member-take c k xs m =
     let whole : take k xs ++ drop k xs ≡ xs = take-append-drop k xs in
     cc (member-append c (take k xs) (drop k xs))
 
+pub member-drop : (c k : ℕ) (xs : List ℕ) → member c (drop k xs) ≡ true → member c xs ≡ true
+member-drop c k xs m =
+    let whole : take k xs ++ drop k xs ≡ xs = take-append-drop k xs in
+    by-test (member c (take k xs)) (λ e. cc (member-append c (take k xs) (drop k xs))) (λ e. cc (member-append c (take k xs) (drop k xs)))
+
 pub member-getD : (xs : List ℕ) (j : ℕ) → j < length xs → member (getD xs j 0) xs ≡ true
 member-getD [] j h = absurd (omega arith)
 member-getD (x ∷ xs) zero h = member-first x xs
@@ -90,6 +95,13 @@ distinct-counts (x ∷ xs) h =
     let out : member x xs ≡ false =
     by-test (member x xs) (λ e. absurd (omega (arith, h x, delta-self x, member-count x xs e))) (λ e. e) in
     distinct-cons x xs out (distinct-counts xs (λ c. omega (arith, h c)))
+
+pub distinct-single : (c : ℕ) (xs : List ℕ) → Distinct xs → count c xs ≤ 1
+distinct-single c [] d = omega arith
+distinct-single c (x ∷ xs) d =
+    by-name x c
+    (λ q e. omega (arith, delta-eq x c q, ap (λ (b : ℕ). count b xs) q, count-none x xs (distinct-head x xs d)))
+    (λ ne e. omega (arith, delta-ne x c ne, distinct-single c xs (distinct-tail x xs d)))
 
 -- a permutation has each name at most once
 pub permutation-single : {n : ℕ} {xs : List ℕ} → IsPermutation n xs → (c : ℕ) → count c xs ≤ 1

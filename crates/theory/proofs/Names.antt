@@ -9,7 +9,7 @@ use Rattle.theory.specs.Lists.{member, without, namesFrom, names}
 use Rattle.theory.specs.Permutation.{IsPermutation}
 use Rattle.theory.proofs.Cases.{by-test, by-name}
 use Rattle.theory.proofs.Permutations.{inside}
-use Rattle.theory.proofs.Members.{Distinct, Same, distinct-cons, member-count, count-member, without-among}
+use Rattle.theory.proofs.Members.{Distinct, Same, distinct-cons, distinct-single, member-count, count-member, without-among}
 
 -- each name is below all later ones
 abbrev pub Ascending : List ℕ → Type 0
@@ -74,3 +74,12 @@ permutation-member {n} {xs} o c =
     let high : c ≤ n = omega (arith, names-high 1 n c f) in
     absurd (false≢true (sym e ∙ count-member c xs (omega (arith, o .once c low high)))))
     (λ f. e ∙ sym f))
+
+-- and a list of n names that has just these is one
+pub names-permutation : {n : ℕ} {xs : List ℕ} → length xs ≡ n → Distinct xs → Same xs (names n) → IsPermutation n xs
+names-permutation {n} {xs} long d same = record {
+  long = long;
+  once = λ c low high.
+      let there : member c xs ≡ true = same c ∙ names-member 1 n c low (omega arith) in
+      omega (arith, member-count c xs there, distinct-single c xs d);
+}

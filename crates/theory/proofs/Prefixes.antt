@@ -15,7 +15,7 @@ use Rattle.theory.specs.Least.{least}
 use Rattle.theory.specs.Permutation.{IsPermutation}
 use Rattle.theory.specs.Prefix.{IsPrefix, prefixes, prefixAt, prefixNumber, prefixLength, symbolPrefix, symbolOf}
 use Rattle.theory.specs.Claims.{Numbering, Coding}
-use Rattle.theory.proofs.Cases.{by-test, by-name}
+use Rattle.theory.proofs.Cases.{by-test, by-name, by-le}
 use Rattle.theory.proofs.Permutations.{inside}
 use Rattle.theory.proofs.Members.{Distinct, Among, permutation-distinct, distinct-left, member-count, member-take}
 use Rattle.theory.proofs.Names.{ascending-distinct, names-length, names-low, names-high, names-member, names-ascending, permutation-member}
@@ -24,13 +24,13 @@ use Rattle.theory.proofs.Factorials.{factorial-pos, falling-quotient}
 use Rattle.theory.proofs.Numbering.{prefixOf, numberOf, Over, prefixes-length, prefixes-at, prefixOf-length, prefixOf-over, prefixOf-before, numberOf-prefixOf, numberOf-below, prefixOf-numberOf}
 
 -- a list begins with q where its first names are q
-begins-take : (q xs : List ℕ) → begins q xs ≡ true → take (length q) xs ≡ q
+pub begins-take : (q xs : List ℕ) → begins q xs ≡ true → take (length q) xs ≡ q
 begins-take [] xs h = refl
 begins-take (c ∷ q) [] h = absurd (false≢true h)
 begins-take (c ∷ q) (x ∷ xs) h =
     by-name c x (λ r e. cc (begins-take q xs (rw e at h))) (λ r e. absurd (false≢true (rw e at h)))
 
-begins-append : (q xs : List ℕ) → begins q (q ++ xs) ≡ true
+pub begins-append : (q xs : List ℕ) → begins q (q ++ xs) ≡ true
 begins-append [] xs = refl
 begins-append (c ∷ q) xs = cc (eq-eqb c c refl, begins-append q xs)
 
@@ -154,3 +154,14 @@ coding n m fits =
           let first : m ≤ factorial n / factorial (n - 0) = rw (all, div-self (factorial-pos n)) (omega arith) in
           omega (arith, least-min test n 0 (le-leb m (factorial n / factorial (n - 0)) first));
     }
+
+-- n - 1 cells are enough for any code
+pub prefixLength-short : (n m : ℕ) → 1 ≤ n → m ≤ factorial n → prefixLength n m < n
+prefixLength-short n m pos fits =
+    let code : Coding n m = coding n m fits in
+    let one : n - (n - 1) ≡ 1 = omega arith in
+    by-le n (prefixLength n m)
+    (λ l.
+    let few : factorial n / factorial (n - (n - 1)) < m = code .least (n - 1) (omega arith) in
+    absurd (omega (arith, rw (one, div-one (factorial n)) at few)))
+    (λ l. l)

@@ -28,14 +28,14 @@ unfolding rewriteCount
 rewrite-high xs t = least-bound (λ r. inSequence xs (drop r t)) (length t)
 
 -- the last cells of the target, after the first r, do stand in sequence
-rewrite-sublist : (xs t : List ℕ) → Sublistᴰ (drop (rewriteCount xs t) t) xs
+pub rewrite-sublist : (xs t : List ℕ) → Sublistᴰ (drop (rewriteCount xs t) t) xs
 unfolding rewriteCount
 rewrite-sublist xs t =
     sequence-sublist xs (drop (rewriteCount xs t) t)
     (least-holds (λ r. inSequence xs (drop r t)) (length t) (length t) (omega arith) (rw drop-length refl))
 
 -- and r is least with that
-rewrite-least : (xs t : List ℕ) (k : ℕ) → Sublistᴰ (drop k t) xs → rewriteCount xs t ≤ k
+pub rewrite-least : (xs t : List ℕ) (k : ℕ) → Sublistᴰ (drop k t) xs → rewriteCount xs t ≤ k
 unfolding rewriteCount
 rewrite-least xs t k h = least-min (λ r. inSequence xs (drop r t)) (length t) k (sublist-sequence xs (drop k t) h)
 
@@ -82,7 +82,7 @@ module _ (x : ℕ) (v t : List ℕ) (j : ℕ) (is : j ≡ rewriteCount v t) (pos
 
 -- ---- the pushes
 
-rewrite-many : (xs t : List ℕ) → length (rewritePushes xs t) ≡ rewriteCount xs t
+pub rewrite-many : (xs t : List ℕ) → length (rewritePushes xs t) ≡ rewriteCount xs t
 unfolding rewritePushes
 rewrite-many xs t = length-reverse (take (rewriteCount xs t) t) ∙ length-take-le (rewriteCount xs t) t (rewrite-high xs t)
 
@@ -126,21 +126,24 @@ module _ (xs t : List ℕ) (dx : Distinct xs) (dt : Distinct t) (same : Same xs 
   first-among : (r : ℕ) → Among (take r t) xs
   first-among r c m = same c ∙ member-take c r t m
 
-  rewrite-reaches : pushCells (rewritePushes xs t) xs ≡ t
-  unfolding rewritePushes
-  rewrite-reaches =
-      let r : ℕ = rewriteCount xs t in
+  -- where the cells after the first r stand in sequence, they are what the first r leave
+  pub rest-left : (r : ℕ) → Sublistᴰ (drop r t) xs → without (take r t) xs ≡ drop r t
+  rest-left r k =
       let a : List ℕ = take r t in
       let s : List ℕ = drop r t in
       let whole : a ++ s ≡ t = take-append-drop r t in
-      let rest : without a xs ≡ s =
-      without-others a (rewrite-sublist xs t) dx (λ c m.
+      without-others a k dx (λ c m.
       by-test (member c a)
       (λ e. cc (distinct-apart a s (rw whole dt) c e))
-      (λ e. cc (same c, member-append c a s))) in
-      cc (upward-split xs dx a (first-distinct r) (first-among r))
+      (λ e. cc (same c, member-append c a s)))
 
-  rewrite-places : Places (length xs) (cellPlaces (rewritePushes xs t) xs)
+  pub rewrite-reaches : pushCells (rewritePushes xs t) xs ≡ t
+  unfolding rewritePushes
+  rewrite-reaches =
+      let r : ℕ = rewriteCount xs t in
+      cc (upward-split xs dx (take r t) (first-distinct r) (first-among r), rest-left r (rewrite-sublist xs t), take-append-drop r t)
+
+  pub rewrite-places : Places (length xs) (cellPlaces (rewritePushes xs t) xs)
   unfolding rewritePushes
   rewrite-places = row (rewriteCount xs t) refl
     where
@@ -162,7 +165,7 @@ module _ (xs t : List ℕ) (dx : Distinct xs) (dt : Distinct t) (same : Same xs 
       rewrite-least xs t k (rw one (sublist-one c xs (same c ∙ member-getD t k (omega arith))))
 
   -- after any row of pushes that gives the target, the cells below the pushed ones stand as they did
-  rewrite-fewest : (is : List ℕ) → Places (length xs) is → pushes is xs ≡ t → rewriteCount xs t ≤ length is
+  pub rewrite-fewest : (is : List ℕ) → Places (length xs) is → pushes is xs ≡ t → rewriteCount xs t ≤ length is
   rewrite-fewest is p e =
       let cs : List ℕ = movedCells is xs in
       let u : ℕ = length (bringAll cs []) in

@@ -36,17 +36,17 @@ push-bring : (i : ℕ) (xs : List ℕ) → Distinct xs → 1 ≤ i → i ≤ len
 unfolding push
 push-bring i xs d low high = let q : suc (i - 1) ≡ i = omega arith in cc (without-at xs (i - 1) d (omega arith))
 
-pub pushCell-bring : (c : ℕ) (xs : List ℕ) → Distinct xs → member c xs ≡ true → pushCell c xs ≡ bring c xs
+pushCell-bring : (c : ℕ) (xs : List ℕ) → Distinct xs → member c xs ≡ true → pushCell c xs ≡ bring c xs
 unfolding pushCell
 pushCell-bring c xs d m =
     push-bring (placeOf c xs) xs d (placeOf-low c xs) (placeOf-high c xs m) ∙ ap (λ (b : ℕ). bring b xs) (cellAt-placeOf c xs m)
 
 -- a row of pushes and one more
-pub pushCells-snoc : (cs : List ℕ) (c : ℕ) (xs : List ℕ) → pushCells (cs ++ c ∷ []) xs ≡ pushCell c (pushCells cs xs)
+pushCells-snoc : (cs : List ℕ) (c : ℕ) (xs : List ℕ) → pushCells (cs ++ c ∷ []) xs ≡ pushCell c (pushCells cs xs)
 pushCells-snoc [] c xs = refl
 pushCells-snoc (b ∷ cs) c xs = pushCells-snoc cs c (pushCell b xs)
 
-pub places-snoc :
+places-snoc :
     (n : ℕ) (cs : List ℕ) (c : ℕ) (xs : List ℕ) → Places n (cellPlaces cs xs)
     → 2 ≤ placeOf c (pushCells cs xs) → placeOf c (pushCells cs xs) ≤ n → Places n (cellPlaces (cs ++ c ∷ []) xs)
 places-snoc n [] c xs p low high = (low, high, tt)
@@ -61,7 +61,7 @@ top-differs c (x ∷ l) r out h = eqb-sym x c ∙ by-test (eqb c x) (λ e. cc) (
 abbrev pub upward : List ℕ → List ℕ → List ℕ
 upward p xs = pushCells (reverse p) xs
 
-pub upward-cons : (c : ℕ) (p xs : List ℕ) → upward (c ∷ p) xs ≡ pushCell c (upward p xs)
+upward-cons : (c : ℕ) (p xs : List ℕ) → upward (c ∷ p) xs ≡ pushCell c (upward p xs)
 upward-cons c p xs = ap (λ (cs : List ℕ). pushCells cs xs) (reverse-cons c p) ∙ pushCells-snoc (reverse p) c xs
 
 module _ (xs : List ℕ) (d : Distinct xs) where
@@ -76,7 +76,7 @@ module _ (xs : List ℕ) (d : Distinct xs) where
       (record { distinct = b .distinct; same = λ a. k .same a ∙ b .same a; long = b .long ∙ k .long })
 
   -- the next cell of p is still there when its turn comes
-  pub upward-member : (c : ℕ) (p : List ℕ) → Among (c ∷ p) xs → member c (upward p xs) ≡ true
+  upward-member : (c : ℕ) (p : List ℕ) → Among (c ∷ p) xs → member c (upward p xs) ≡ true
   upward-member c p h = sym (upward-rearranged p (among-tail c p xs h) .same c) ∙ h c (member-first c p)
 
   -- they come on top in the sequence of p, and the others stay below in theirs
@@ -97,12 +97,12 @@ module _ (xs : List ℕ) (d : Distinct xs) where
       )
 
   -- the next cell of p is not on top when its turn comes, but for the last
-  pub upward-top : (c : ℕ) (p : List ℕ) → Distinct (c ∷ p) → Among (c ∷ p) xs → 1 ≤ length p → eqb (top (upward p xs)) c ≡ false
+  upward-top : (c : ℕ) (p : List ℕ) → Distinct (c ∷ p) → Among (c ∷ p) xs → 1 ≤ length p → eqb (top (upward p xs)) c ≡ false
   upward-top c p dp h pos =
       rw (upward-split p (distinct-tail c p dp) (among-tail c p xs h)) (top-differs c p (without p xs) (distinct-head c p dp) pos)
 
   -- one more push, of a cell that is not on top, is at a place 2 to n
-  pub upward-place : (c : ℕ) (p : List ℕ) → Among (c ∷ p) xs → eqb (top (upward p xs)) c ≡ false
+  upward-place : (c : ℕ) (p : List ℕ) → Among (c ∷ p) xs → eqb (top (upward p xs)) c ≡ false
       → (2 ≤ placeOf c (upward p xs)) × (placeOf c (upward p xs) ≤ length xs)
   upward-place c p h other =
       let m : member c (upward p xs) ≡ true = upward-member c p h in
@@ -119,6 +119,10 @@ module _ (xs : List ℕ) (d : Distinct xs) where
       (places-snoc (length xs) (reverse q) b xs
       (upward-places p c (distinct-tail b q dp) (among-tail b q xs h) other)
       (k .0) (k .1))
+
+push-rearranged : (i : ℕ) (xs : List ℕ) → Distinct xs → 2 ≤ i → i ≤ length xs → Rearranged xs (push i xs)
+push-rearranged i xs d low high =
+    rw (push-bring i xs d (omega arith) high) (bring-rearranged (cellAt i xs) xs d (member-getD xs (i - 1) (omega arith)))
 
 -- cells brought to the top one after another
 abbrev pub bringAll : List ℕ → List ℕ → List ℕ
@@ -147,10 +151,16 @@ pub movedCells-length : (is xs : List ℕ) → length (movedCells is xs) ≡ len
 movedCells-length [] xs = refl
 movedCells-length (i ∷ is) xs = ap suc (movedCells-length is (push i xs))
 
+pub pushes-rearranged : (is xs : List ℕ) → Distinct xs → Places (length xs) is → Rearranged xs (pushes is xs)
+pushes-rearranged [] xs d p = record { distinct = d; same = λ c. refl; long = refl }
+pushes-rearranged (i ∷ is) xs d p =
+    let k : Rearranged xs (push i xs) = push-rearranged i xs d (p .0) (p .1) in
+    let r : Rearranged (push i xs) (pushes is (push i xs)) = pushes-rearranged is (push i xs) (k .distinct) (rw (k .long) (p .2)) in
+    record { distinct = r .distinct; same = λ c. k .same c ∙ r .same c; long = r .long ∙ k .long }
+
 pub pushes-bringAll : (is xs : List ℕ) → Distinct xs → Places (length xs) is → pushes is xs ≡ bringAll (movedCells is xs) xs
 pushes-bringAll [] xs d p = refl
 pushes-bringAll (i ∷ is) xs d p =
-    let c : ℕ = cellAt i xs in
-    let e : push i xs ≡ bring c xs = push-bring i xs d (omega arith) (p .1) in
-    let k : Rearranged xs (push i xs) = rw e (bring-rearranged c xs d (member-getD xs (i - 1) (omega arith))) in
-    pushes-bringAll is (push i xs) (k .distinct) (rw (k .long) (p .2)) ∙ ap (bringAll (movedCells is (push i xs))) e
+    let k : Rearranged xs (push i xs) = push-rearranged i xs d (p .0) (p .1) in
+    pushes-bringAll is (push i xs) (k .distinct) (rw (k .long) (p .2))
+    ∙ ap (bringAll (movedCells is (push i xs))) (push-bring i xs d (omega arith) (p .1))

@@ -51,7 +51,7 @@ sublist-one c (x ∷ xs) m =
     (λ q e. Sublistᴰ·cons-cons q (Sublistᴰ·nil-sublist xs))
     (λ q e. Sublistᴰ·cons (sublist-one c xs (rw e at m)))
 
-sublist-member : (c : ℕ) {s xs : List ℕ} → Sublistᴰ s xs → member c s ≡ true → member c xs ≡ true
+pub sublist-member : (c : ℕ) {s xs : List ℕ} → Sublistᴰ s xs → member c s ≡ true → member c xs ≡ true
 sublist-member c Sublistᴰ·slnil m = m
 sublist-member c (Sublistᴰ·cons {a = y} {l₂ = ys} k) m = member-later c y ys (sublist-member c k m)
 sublist-member c (Sublistᴰ·cons-cons {b = y} q k) m =

@@ -12,6 +12,7 @@ use Rattle.theory.proofs.Storing.{storing, symbol-storing}
 use Rattle.theory.proofs.Calls.{calling}
 use Rattle.theory.proofs.Demand3.{demand3}
 use Rattle.theory.proofs.Readings.{readings}
+use Rattle.theory.proofs.Examples.{examples}
 
 pub theory : Theory
 theory = record {
@@ -29,4 +30,5 @@ theory = record {
   calling = calling;
   demand3 = demand3;
   readings = readings;
+  examples = examples;
 }

@@ -1,9 +1,8 @@
 -- What is claimed of the meanings, topic by topic. `specs/Theory` says under which conditions each claim is proved. Assumes nothing.
 use mathlib.Core.Path.{_≡_}
-use mathlib.Core.Bool.{true, false, cond}
+use mathlib.Core.Bool.{true, false}
 use mathlib.Core.List.{List, _++_, reverse, Lexᴰ}
 use Prim.Native.Nat.{ℕ, _+_, _-_, _/_, _%_, _^_, _≤_, _<_}
-use lib.Dec.{eqb}
 use lib.ListN.{length, getD, take, drop}
 use Rattle.theory.specs.Reasons as reason
 use Rattle.theory.specs.Lists.{member, without, names}
@@ -17,7 +16,7 @@ use Rattle.theory.specs.Levels.{level, highest, lowest, tied, permutatio
 use Rattle.theory.specs.CountUp.{countUp, callNumber, callPushes, callLevels}
 use Rattle.theory.specs.Rewrite.{rewriteCount, rewritePushes}
 use Rattle.theory.specs.Prefix.{IsPrefix, prefixes, prefixAt, prefixNumber, prefixLength, symbolPrefix, symbolOf}
-use Rattle.theory.specs.Store.{storePrefix, storeCount, storePushes}
+use Rattle.theory.specs.Store.{storeCount, storePushes}
 
 -- "Why a job is sent back": the number of each word
 pub record Reasons : Type 0 where
@@ -134,14 +133,17 @@ pub record Coding (n m : ℕ) : Type 0 where
 -- storing a prefix q of p cells in a permutation of n cells
 pub record Storing (n p : ℕ) (q xs : List ℕ) : Type 0 where
   -- the prefix, and below it the other cells in their old sequence
-  pub reaches : storePrefix q xs ≡ q ++ without q xs
-  -- by the pushes that it says, each of a cell, at a place 2 to n; the count is theirs
-  pub pushed : pushCells (storePushes q xs) xs ≡ storePrefix q xs
+  pub reaches : pushCells (storePushes q xs) xs ≡ q ++ without q xs
+  -- by as many pushes as it counts, each of a cell, at a place 2 to n
+  pub counted : storeCount q xs ≡ length (storePushes q xs)
   pub cells : (c : ℕ) → member c (storePushes q xs) ≡ true → (1 ≤ c) × (c ≤ n)
   pub places : Places n (cellPlaces (storePushes q xs) xs)
-  pub counted : storeCount q xs ≡ length (storePushes q xs)
-  -- only the prefix's last cell, which is handled first, can be on top then and be passed over
-  pub passed : 1 ≤ p → storeCount q xs + cond (eqb (top xs) (cellAt p q)) 1 0 ≡ p
+  -- "no shorter row of pushes reaches any order with that prefix"
+  pub fewest : (is : List ℕ) → Places n is → take p (pushes is xs) ≡ q → storeCount q xs ≤ length is
+  -- a prefix that leads already needs no push
+  pub standing : take p xs ≡ q → storeCount q xs ≡ 0
+  -- it is a rewrite: to the prefix, and below it the other cells in their old sequence
+  pub rewrites : storeCount q xs ≡ rewriteCount xs (q ++ without q xs)
 
 -- storing symbol s of m in a permutation of n cells
 pub record SymbolStoring (n m s : ℕ) (xs : List ℕ) : Type 0 where
@@ -150,7 +152,7 @@ pub record SymbolStoring (n m s : ℕ) (xs : List ℕ) : Type 0 where
   -- "With m = 1 [..] no push is done."
   pub one : m ≡ 1 → storeCount (symbolPrefix n m s) xs ≡ 0
   -- what was stored is read
-  pub read : symbolOf n m (storePrefix (symbolPrefix n m s) xs) ≡ s
+  pub read : symbolOf n m (pushCells (storePushes (symbolPrefix n m s) xs) xs) ≡ s
 
 -- the answer of a count-up call with k on any levels
 pub record Calling (k : ℕ) (L : List ℕ) : Type 0 where

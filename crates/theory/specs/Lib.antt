@@ -18,4 +18,5 @@ pub mod Store
 pub mod Claims
 pub mod Demand3
 pub mod Readings
+pub mod Examples
 pub mod Theory

@@ -1,26 +1,19 @@
--- The storing rule of document 01. Assumes nothing.
-use mathlib.Core.Bool.{cond}
-use mathlib.Core.List.{List, [], _∷_, _++_}
-use Prim.Native.Nat.{ℕ, _+_}
-use lib.Dec.{eqb}
-use Rattle.theory.specs.Permutation.{top}
-use Rattle.theory.specs.Push.{pushCell}
+-- The storing rule of document 02, request 1, "Settings that already stand". Assumes nothing.
+use mathlib.Core.Bool.{Bool}
+use mathlib.Core.List.{List, reverse}
+use Prim.Native.Nat.{ℕ}
+use lib.ListN.{length, take, drop}
+use Rattle.theory.specs.Lists.{without, begins}
+use Rattle.theory.specs.Least.{least}
 
--- "a cell already on top is passed over, any other is pushed"
-unfoldable pub storeCell : ℕ → List ℕ → List ℕ
-storeCell c xs = cond (eqb (top xs) c) xs (pushCell c xs)
+-- "the order, with the prefix's first r cells taken out, begins with the rest of the prefix"
+abbrev pub restLeads : List ℕ → List ℕ → ℕ → Bool
+restLeads q xs r = begins (drop r q) (without (take r q) xs)
 
--- "Storing s handles its prefix cells p, p-1, ..., 1"
-unfoldable pub storePrefix : List ℕ → List ℕ → List ℕ
-storePrefix [] xs = xs
-storePrefix (c ∷ p) xs = storeCell c (storePrefix p xs)
-
--- "The count is of pushes done."
+-- "Storing shall use the smallest r for which" that is so
 unfoldable pub storeCount : List ℕ → List ℕ → ℕ
-storeCount [] xs = 0
-storeCount (c ∷ p) xs = storeCount p xs + cond (eqb (top (storePrefix p xs)) c) 0 1
+storeCount q xs = least (restLeads q xs) (length q)
 
--- the cells that it pushes, in their sequence
+-- "then cells r to 1 are pushed"
 unfoldable pub storePushes : List ℕ → List ℕ → List ℕ
-storePushes [] xs = []
-storePushes (c ∷ p) xs = storePushes p xs ++ cond (eqb (top (storePrefix p xs)) c) [] (c ∷ [])
+storePushes q xs = reverse (take (storeCount q xs) q)

@@ -11,6 +11,7 @@ use Rattle.theory.specs.Prefix.{IsPrefix}
 use Rattle.theory.specs.Claims.{Reasons, Factorials, Padding, Ranking, Stepping, Reading, Rewriting, Numbering, Coding, Storing, SymbolStoring, Calling}
 use Rattle.theory.specs.Demand3.{Demand3}
 use Rattle.theory.specs.Readings.{Readings}
+use Rattle.theory.specs.Examples.{Examples}
 
 pub record Theory : Type 0 where
   pub reasons : Reasons
@@ -27,3 +28,4 @@ pub record Theory : Type 0 where
   pub calling : (k : ℕ) (L : List ℕ) → Calling k L
   pub demand3 : (n : ℕ) → 2 ≤ n → Demand3 n
   pub readings : Readings
+  pub examples : Examples

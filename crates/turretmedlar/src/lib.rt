@@ -106,7 +106,7 @@ pub extern "C" fn tm_rewrite(levels: &mut [u16], target: Permutation, list: &mut
 pub extern "C" fn tm_store(levels: &mut [u16], m: u64, symbol: u64) -> Pushes
     ensures answer { λ r. ⌜ r ≡ storeAnswer (now (levels .entry)) m symbol ⌝ }
     ensures levels_left { λ _. ⌜ now (levels .exit) ≡ storeLevels (now (levels .entry)) m symbol ⌝ }
-    ensures read_back { λ r. ⌜ (r .number ≡ 0 → StoreOf (now (levels .entry)) m symbol (now (levels .exit))) ⌝ }
+    ensures stored { λ r. ⌜ (r .number ≡ 0 → StoreOf (now (levels .entry)) m symbol (now (levels .exit)) (r .pushes)) ⌝ }
 {
     store(levels, m, symbol)
 }

@@ -17,7 +17,7 @@ use Rattle.permutation.specs.Records.{listOf}
 use Rattle.permutation.specs.declared.answers.Permutation.{Permutation}
 use Rattle.theory.proofs.Refusal.{given-so, Readable, readable, read-done}
 use Rattle.rewriting.specs.Answers.{rewriteNumber, rewriteLevels}
-use Rattle.symbols.specs.Answers.{prefixOn, storeNumber, storeLevels}
+use Rattle.symbols.specs.Answers.{prefixOn, leadLevels, storeNumber}
 use Rattle.rewriting.proofs.Rewriting.{rewrite-readable}
 use Rattle.symbols.proofs.Storing.{store-readable}
 use Rattle.sheet.specs.declared.held.Action.{Action}
@@ -25,7 +25,7 @@ use Rattle.sheet.specs.declared.held.Action.the-variants.{Count, Rewrite, Store
 use Rattle.work.specs.Work.{room, jobLevels}
 
 pub job-length : (a : Action) (target : Permutation) (L : List ℕ) → length (jobLevels a target L) ≡ length L
-unfolding rewriteLevels storeLevels
+unfolding rewriteLevels leadLevels
 job-length (Count k) target L = call-length k L
 job-length Rewrite target L =
     given-so (λ M. length M ≡ length L) (rewriteNumber L target room) _ L refl (λ z. row-length (rewritePushes (permutationOf L) (listOf target)) L)

@@ -130,27 +130,25 @@ fn symbols_number_the_sorted_prefixes() {
     }
 }
 
-/// What was stored is read back, by the pushes of the prefix cells not yet on top; a start with no symbol is idle.
+/// What was stored is read back, by the least number of pushes to any permutation with that prefix, the other cells in their old sequence;
+/// a start with no symbol is idle.
 fn check_stores(start: &[u8], sorted: &[Vec<u8>], m: usize) {
+    let known = distances(start);
     let before = levels(start, 40, 2);
     let leading = sorted.iter().position(|prefix| start.starts_with(prefix)).unwrap();
     let expected = if leading < m { Ok(leading as u64) } else { Err(Reason::Idle) };
     assert_eq!(read_symbol(&before, m as u64), expected);
     for (symbol, prefix) in (0..).zip(&sorted[..m]) {
+        let least = known.iter().filter(|(names, _)| names.starts_with(prefix)).map(|(_, &distance)| distance).min().unwrap();
         let mut after = before.clone();
         let mut replayed = before.clone();
-        let mut pushes = 0;
-        for &cell in prefix.iter().rev() {
-            let top = *replayed.iter().max().unwrap();
-            let level = &mut replayed[usize::from(cell) - 1];
-            if *level != top {
-                *level = top + 1;
-                pushes += 1;
-            }
+        for (level, &cell) in (41..).zip(prefix[..least as usize].iter().rev()) {
+            replayed[usize::from(cell) - 1] = level;
         }
-        assert_eq!(store(&mut after, m as u64, symbol), Ok(pushes));
+        assert_eq!(store(&mut after, m as u64, symbol), Ok(least));
         assert_eq!(after, replayed);
-        assert!(read(&after).unwrap().cells.starts_with(prefix));
+        let others: Vec<u8> = start.iter().copied().filter(|cell| !prefix.contains(cell)).collect();
+        assert_eq!(read(&after), Ok(permutation(&[&prefix[..], &others].concat())));
         assert_eq!(read_symbol(&after, m as u64), Ok(symbol));
     }
 }

@@ -1,4 +1,4 @@
-//! The bench readings of document 01, one table per kind.
+//! The bench readings of document 01, one table per kind, and the example of document 02's request 1.
 
 use super::{levels, permutation};
 use crate::symbols::{number_of_prefix, prefix_length};
@@ -69,6 +69,15 @@ fn prefix_codes() {
     assert_eq!(number_of_prefix(4, &[3, 1]), 6);
     let mut group = levels(&[4, 3, 2, 1], 3, 1);
     assert_eq!((store(&mut group, 12, 6), group), (Ok(2), vec![4, 1, 5, 3]));
+}
+
+/// "With [3,1,2,4], 12 symbols and symbol 6 [..] none is needed."
+#[test]
+fn a_setting_that_stands() {
+    for top in [3, 65_535] {
+        let mut group = levels(&[3, 1, 2, 4], top, 1);
+        assert_eq!((store(&mut group, 12, 6), group), (Ok(0), levels(&[3, 1, 2, 4], top, 1)));
+    }
 }
 
 #[test]

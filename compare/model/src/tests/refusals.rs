@@ -95,7 +95,7 @@ fn charge_levels() {
 
 #[test]
 fn symbols() {
-    // Cell 1 is on top; m = 6 has p = 2, m = 3 has p = 1.
+    // The order is [1,2,3]; m = 6 has p = 2, m = 3 has p = 1.
     let table = [
         (0, 0, Some(Value), Some(Value)),
         (7, 0, Some(Value), Some(Value)),
@@ -104,6 +104,7 @@ fn symbols() {
         (1, 0, None, None),
         (3, 0, None, None),
         (3, 1, Some(Ceiling), None),
+        (6, 0, None, None),
         (6, 2, Some(Ceiling), None),
         (6, 5, Some(Ceiling), Some(Ceiling)),
     ];
