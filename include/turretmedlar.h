@@ -29,7 +29,7 @@ extern "C" {
 
 /* The version of this header and its library; README.md and the Rust package have the same. The second number counts landings (docs/landings/), each of which
  * may change what a caller sees; the third counts corrections since, which change nothing that a caller relies on. The first is 0 until a release. */
-#define TM_VERSION "0.7.0"
+#define TM_VERSION "0.8.0"
 /* The most cells of a group, and the places of a record's row. */
 #define TM_CELLS 20
 /* The most bytes of a sheet without fault; a longer one is faulty. */
@@ -143,7 +143,9 @@ tm_pushes tm_rewrite(uint16_t *levels, size_t n, tm_permutation target, uint8_t 
  * Symbol s is the prefix number s, counted from 0 in lexicographic sequence, of length p: the first p names of a permutation, p the smallest number with
  * n!/(n-p)! at least m. With m = 1, p is 0: nothing is pushed, and 0 is read. */
 
-/* Stores `symbol`: its prefix comes to the top, by pushing its cells from the last to the first; a cell already on top is passed over. Gives the number of pushes.
+/* Stores `symbol`: its prefix comes to the top, by pushing its cells at places r, r - 1, ..., 1, in that sequence. r is the smallest number for which the levels'
+ * permutation, with the prefix's first r cells taken out, begins with the rest of the prefix, and the fewest pushes that lead to any permutation with that prefix.
+ * Gives r. A symbol that stands already is not pushed at all, and is stored at 65,535 too.
  * Refused: 1 size, n is not 2 to 20; 4 tie, two levels are equal; 5 value, m is 0 or above n!, or `symbol` is m or more; 6 ceiling, the highest level plus the
  * pushes exceeds 65,535.
  * Unchanged: the levels of cells that are not pushed; refused, all levels. */

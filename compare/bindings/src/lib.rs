@@ -143,7 +143,7 @@ pub fn rewrite(levels: &mut [u16], target: Permutation, list: &mut [u8]) -> Resu
     given(answer.number, answer.pushes)
 }
 
-/// Stores a symbol of a code of m symbols, and gives the number of pushes.
+/// Stores a symbol of a code of m symbols by the fewest pushes, none where it stands already, and gives their number.
 /// Refused: Size, Tie, Value, Ceiling.
 pub fn store(levels: &mut [u16], m: u64, symbol: u64) -> Result<u32, Reason> {
     let answer = raw::store(levels, m, symbol);

@@ -31,7 +31,15 @@ const SHEETS: [(&str, &str, usize); 5] = [
 type OfSize = fn(usize) -> Box<dyn Pair>;
 
 pub fn benchmarks() -> Vec<Benchmark> {
-    let jobs: [(&str, OfSize); 6] = [("rank", rank), ("unrank", unrank), ("read", read), ("rewrite", rewrite), ("store", store), ("read_symbol", read_symbol)];
+    let jobs: [(&str, OfSize); 7] = [
+        ("rank", rank),
+        ("unrank", unrank),
+        ("read", read),
+        ("rewrite", rewrite),
+        ("store", store),
+        ("store, standing", store_standing),
+        ("read_symbol", read_symbol),
+    ];
     let mut list = vec![];
     for (name, job) in jobs {
         list.extend(SIZES.map(|n| Benchmark { name: name.into(), n: Some(n), passes: 1, build: Box::new(move || job(n)) }));
@@ -132,9 +140,22 @@ fn rewrite(n: usize) -> Box<dyn Pair> {
 }
 
 fn store(n: usize) -> Box<dyn Pair> {
+    stores(n, |random, _| random.below(factorial(n)))
+}
+
+/// Of settings that stand already.
+fn store_standing(n: usize) -> Box<dyn Pair> {
+    stores(n, |_, levels| turretmedlar::read_symbol(levels, factorial(n)).unwrap())
+}
+
+fn stores(n: usize, symbol: impl Fn(&mut Random, &[u16]) -> u64) -> Box<dyn Pair> {
     let m = factorial(n);
+    let input = |random: &mut Random| {
+        let levels = levels(random, n);
+        (levels, symbol(random, &levels[..n]))
+    };
     pair(
-        inputs(INPUTS, |random| (levels(random, n), random.below(m))),
+        inputs(INPUTS, input),
         on_levels(n, move |levels, &symbol, _| turretmedlar::store(levels, m, symbol).unwrap()),
         on_levels(n, move |levels, &symbol, _| model::store(levels, m, symbol).unwrap()),
     )

@@ -2,10 +2,9 @@
 use mathlib.Core.Path.{_≡_, refl, ap, sym, _∙_}
 use mathlib.Core.Bool.{true, false, false≢true}
 use mathlib.Core.List.{List, [], _∷_, map}
-use Prim.Native.Nat.{ℕ, zero, suc, _-_, _≤_, _<_}
+use Prim.Native.Nat.{ℕ, zero, suc, _≤_, _<_}
 use native.Mathlib.Omega.{arith}
-use lib.ListN.{length, getD, take, drop, length-drop}
-use lib.Seq.{take-all}
+use lib.ListN.{length, getD, drop}
 use Rattle.theory.specs.Lists.{member}
 use Rattle.theory.specs.Permutation.{IsPermutation}
 use Rattle.theory.specs.Levels.{level, highest, tied}
@@ -13,10 +12,6 @@ use Rattle.theory.proofs.Cases.{by-test, by-name, by-le}
 use Rattle.theory.proofs.Permutations.{inside}
 use Rattle.theory.proofs.Members.{Distinct, permutation-distinct, member-count, count-member, member-first, member-later, distinct-head, distinct-tail, distinct-cons}
 use Rattle.theory.proofs.Ties.{Apart, untied-apart, apart-untied}
-
--- a list from index p on, as code lends it
-pub from-index : (p : ℕ) (l : List ℕ) → take (length l - p) (drop p l) ≡ drop p l
-from-index p l = take-all (length l - p) (drop p l) (omega (arith, length-drop p l))
 
 module _ (L : List ℕ) where
   pub along-at : (xs : List ℕ) (j : ℕ) → j < length xs → getD (map (level L) xs) j 0 ≡ level L (getD xs j 0)
@@ -93,8 +88,8 @@ module _ (L : List ℕ) where
       (λ qd ed. untied-separate xs (distinct-tail (level L x) (map (level L) xs) t) c d (rw ec at mc) (rw ed at md) ne e))
 
   -- the levels along a row that has all cells have a tie where the levels have one
-  pub tied-along : (ys : List ℕ) → IsPermutation (length L) ys → tied (map (level L) ys) ≡ tied L
-  tied-along ys o =
+  pub tied-row : (ys : List ℕ) → IsPermutation (length L) ys → tied (map (level L) ys) ≡ tied L
+  tied-row ys o =
       by-test (tied L)
       (λ t. by-test (tied (map (level L) ys)) (λ e. e ∙ sym t) (λ e. absurd (false≢true (sym (apart-untied L (apart e)) ∙ t))))
       (λ t. separate-untied ys (permutation-distinct o) (separate (untied-apart L t)) ∙ sym t)

@@ -20,7 +20,7 @@ use Rattle.theory.proofs.Sublists.{sublist-member, without-sublist}
 use Rattle.theory.proofs.Rewriting.{rewrite-sublist, rewrite-least}
 use Rattle.theory.proofs.Prefixes.{permutation-prefix}
 use Rattle.theory.proofs.Storing.{storing}
-use Rattle.symbols.specs.AnyPrefix.{StandsFrom}
+use Rattle.symbols.specs.AnyPrefix.{FallsFrom}
 use Rattle.symbols.proofs.Along.{along-at, along-drop, along-highest, along-below}
 
 -- ---- going up the first p
@@ -36,7 +36,7 @@ pub start : {along : List ℕ} {p bound : ℕ} → p < length along → bound �
 start short e = record { short = short; within = omega arith; bound-is = e; above = λ j low high. absurd (omega arith) }
 
 module _ {along : List ℕ} {p bound r : ℕ} (v : Rising along p bound r) where
-  pub end : (0 < r → getD along (r - 1) 0 ≤ bound) → StandsFrom along p r
+  pub end : (0 < r → getD along (r - 1) 0 ≤ bound) → FallsFrom along p r
   end h = record { short = v .short; within = v .within; above = v .above; smallest = λ pos. rw (← v .bound-is) (h pos) }
 
   pub step : 0 < r → bound < getD along (r - 1) 0 → Rising along p (getD along (r - 1) 0) (r - 1)
@@ -57,7 +57,7 @@ module _ {along : List ℕ} {p bound r : ℕ} (v : Rising along p bound r) where
 -- ---- cells along which the levels fall
 
 module _ (L : List ℕ) where
-  -- they stand in that sequence in every such row that has them, and the other way round
+  -- they stand in that sequence in every such row that has them
   falls-sublist : (xs s : List ℕ) → Falls L xs → Falls L s → Among s xs → Sublistᴰ s xs
   falls-sublist xs [] f g h = Sublistᴰ·nil-sublist xs
   falls-sublist [] (c ∷ s) f g h = absurd (false≢true (h c (member-first c s)))
@@ -77,6 +77,7 @@ module _ (L : List ℕ) where
       under : (d : ℕ) → member d (c ∷ s) ≡ true → level L c < level L x → level L d < level L x
       under d m l = by-name d c (λ q e. omega (arith, ap (level L) q)) (λ ne e. omega (arith, g .0 d (member-count d s (rw e at m))))
 
+  -- and cells that stand in sequence in such a row are such cells
   sublist-falls : {s xs : List ℕ} → Sublistᴰ s xs → Falls L xs → Falls L s
   sublist-falls Sublistᴰ·slnil f = tt
   sublist-falls (Sublistᴰ·cons k) f = sublist-falls k (f .1)
@@ -130,7 +131,7 @@ module _ (L ys : List ℕ) (p : ℕ) (o : IsPermutation (length L) ys) (short : 
       (λ e. cc (member-without d q xs, all-same d, member-append d q (drop p ys))) in
       cc (led-drop k h, member-append d (drop k q) (without q xs), member-append d (drop k q) (drop p ys))
 
-  module _ {r : ℕ} (untied : tied L ≡ false) (v : StandsFrom (map (level L) ys) p r) where
+  module _ {r : ℕ} (untied : tied L ≡ false) (v : FallsFrom (map (level L) ys) p r) where
     now-falls : Falls L xs
     now-falls = reads-permutationOf L untied .falls
 

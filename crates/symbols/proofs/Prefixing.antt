@@ -64,7 +64,7 @@ pub record Coded (n m s : ℕ) : Type 0 where
 pub coded-right : {n m s : ℕ} → Coded n m s → coded n m ≡ true
 coded-right {n} {m} v = rw (le-leb 1 m (omega (arith, v .below)), le-leb m (factorial n) (v .most))
 
-pub prefix-done : {n m s : ℕ} → Coded n m s → codeNumber n m s ≡ done
+prefix-done : {n m s : ℕ} → Coded n m s → codeNumber n m s ≡ done
 unfolding codeNumber
 prefix-done {n} {m} {s} v = rw (size-done n (v .few) (v .many), coded-right v, lt-ltb s m (v .below))
 

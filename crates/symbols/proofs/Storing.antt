@@ -31,8 +31,8 @@ use Rattle.charge.proofs.ReadLevels.{row-readable}
 use Rattle.rewriting.specs.Raising.{Pushable, raised}
 use Rattle.symbols.specs.declared.answers.Prefixed.{Prefixed}
 use Rattle.symbols.specs.Answers.{codeNumber, prefixOn, pushesFor, leadNumber, leadAnswer, leadLevels, storeNumber, storeAnswer, storeLevels, symbolNumber, symbolAnswer, LedBy, StoreOf}
-use Rattle.symbols.specs.AnyPrefix.{rowAnswer, Storable, StandsFrom}
-use Rattle.symbols.proofs.Along.{tied-along}
+use Rattle.symbols.specs.AnyPrefix.{rowAnswer, Storable, FallsFrom}
+use Rattle.symbols.proofs.Along.{tied-row}
 use Rattle.symbols.proofs.Leading.{count-is}
 use Rattle.symbols.proofs.Prefixing.{Coded, coded-right, in-range, row-permutation}
 
@@ -60,12 +60,15 @@ module _ {L q : List ℕ} {p : ℕ} (r : Readable L) (prefix : IsPrefix (length 
     fewest = λ is places lead. rw e (stores .fewest is places (rw (prefix .long) at lead));
   }
 
+not-done : {a : Pushes} {number : ℕ} → a ≡ noPushes number → (number ≡ 0 → ⊥) → a .number ≡ 0 → ⊥
+not-done e ne z = ne (sym (ap (λ (a : Pushes). a .number) e) ∙ z)
+
 module _ (code : ℕ) (L q : List ℕ) where
   pub lead-refused : {a : Pushes} {number : ℕ} → a ≡ noPushes number → number ≡ leadNumber code L q → (number ≡ 0 → ⊥) → Led code L q a L
   unfolding leadAnswer leadLevels
   lead-refused e is ne =
       let b = pushes-refused (pushesFor L q) L (pushLevels (storePushes q (permutationOf L)) L) e is ne in
-      (b .0, (b .1, λ z. absurd (ne (sym (ap (λ (a : Pushes). a .number) e) ∙ z))))
+      (b .0, (b .1, λ z. absurd (not-done e ne z)))
 
   -- the number of the levels is that of the job, and then that of the code
   pub lead-fault : {number : ℕ} → number ≡ readNumber L → (number ≡ 0 → ⊥) → number ≡ leadNumber code L q
@@ -112,7 +115,7 @@ module _ {L cells : List ℕ} {p : ℕ} (v : Storable L cells p) where
 
     -- their tie is that of the levels
     tie-is : tied x ≡ tied L
-    tie-is = ap tied x-is ∙ tied-along L (take (length L) cells) (v .permutation)
+    tie-is = ap tied x-is ∙ tied-row L (take (length L) cells) (v .permutation)
 
     pub tie-refused : {t : Bool} → t ≡ tied x → t ≡ true → tie ≡ leadNumber 0 L (take p cells)
     unfolding readNumber
@@ -122,7 +125,7 @@ module _ {L cells : List ℕ} {p : ℕ} (v : Storable L cells p) where
     untied-now e t = record { few = v .few; many = v .many; untied = sym tie-is ∙ sym e ∙ t }
 
     -- r pushes are those of the storing rule, and what is answered of them is the answer
-    module _ {r : ℕ} (u : StandsFrom x p r) (now : Readable L) where
+    module _ {r : ℕ} (u : FallsFrom x p r) (now : Readable L) where
       count-now : r ≡ pushesFor L (take p cells)
       count-now = rw front-of at (count-is L (take (length L) cells) p (v .permutation) (v .short) (now .untied) (rw x-is at u))
 
@@ -183,7 +186,7 @@ pub store-refused : (L : List ℕ) (m s : ℕ) {a : Pushes} {number : ℕ} → a
     → Answered L m s a L
 store-refused L m s e is ne =
     let b = lead-refused (codeNumber (length L) m s) L (prefixOn L m s) e is ne in
-    (b .0, (b .1 .0, λ z. absurd (ne (sym (ap (λ (a : Pushes). a .number) e) ∙ z))))
+    (b .0, (b .1 .0, λ z. absurd (not-done e ne z)))
 
 pub row-number : (n m s : ℕ) {found : Prefixed} → found ≡ rowAnswer n m s → found .number ≡ codeNumber n m s
 unfolding rowAnswer

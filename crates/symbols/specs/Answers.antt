@@ -79,14 +79,14 @@ symbolAnswer L m = record {
   symbol = given (symbolNumber L m) (symbolOf (length L) m (permutationOf L)) 0;
 }
 
--- a prefix q was stored on L by r pushes, which left L′
+-- a prefix q stored on L: done, with r pushes answered and L′ left
 pub record LedBy (q L L′ : List ℕ) (r : ℕ) : Type 0 where
   -- the permutation then read: the prefix, and below it the other cells in their old sequence
   pub read : readAnswer L′ ≡ permuted 0 (q ++ without q (permutationOf L))
   -- "no shorter row of pushes reaches any order with that prefix"
   pub fewest : (is : List ℕ) → Places (length L) is → take (length q) (pushes is (permutationOf L)) ≡ q → r ≤ length is
 
--- a symbol s of m was, and is read back under the same m
+-- so a symbol s of m, and it is read back under the same m
 pub record StoreOf (L : List ℕ) (m s : ℕ) (L′ : List ℕ) (r : ℕ) : Type 0 where
   pub led : LedBy (prefixOn L m s) L L′ r
   pub read-back : symbolAnswer L′ m ≡ record { number = 0; symbol = s }

@@ -1,5 +1,5 @@
--- A prefix with the other cells behind it, in a row of twenty, and from where on it stands, by the levels along the row. Only inner contracts cite these.
--- Assumes nothing.
+-- A prefix with the other cells behind it, in a row of twenty, and how much of it must be pushed, by the levels along the row. Only inner contracts cite
+-- these. Assumes nothing.
 use mathlib.Core.Path.{_≡_}
 use mathlib.Core.List.{List, [], _++_}
 use Prim.Native.Nat.{ℕ, suc, _-_, _≤_, _<_}
@@ -28,8 +28,8 @@ pub record Storable (L cells : List ℕ) (p : ℕ) : Type 0 where
   pub permutation : IsPermutation (length L) (take (length L) cells)
   pub short : p < length L
 
--- the first p of levels along a row stand from the r-th on: each after it is above all that come behind, and r is the smallest number for which that is so
-pub record StandsFrom (along : List ℕ) (p r : ℕ) : Type 0 where
+-- of levels along a row, r is the smallest number for which each of the first p, but for the first r, is above all behind it
+pub record FallsFrom (along : List ℕ) (p r : ℕ) : Type 0 where
   pub short : p < length along
   pub within : r ≤ p
   pub above : (j : ℕ) → r ≤ j → j < p → highest (drop (suc j) along) < getD along j 0

@@ -4,4 +4,5 @@ mod number; // the number of the prefix that leads a permutation
 pub mod prefix; // the prefix of a symbol
 mod prefix_length; // the length of the prefixes of a code
 pub mod read_symbol; // the symbol of levels
+mod row; // the row of a symbol: its prefix, and the other names behind it
 pub mod store; // a symbol

@@ -6,8 +6,8 @@ ghost use lib.ListN.{length, take, drop};
 ghost use Rattle.theory.specs.Permutation.{IsPermutation};
 ghost use Rattle.theory.specs.Levels as meaning;
 ghost use Rattle.symbols.specs.Answers.{leadAnswer, leadLevels, storeAnswer, storeLevels, LedBy, StoreOf};
-ghost use Rattle.symbols.specs.AnyPrefix.{Storable, StandsFrom};
-use super::prefix::prefix_row;
+ghost use Rattle.symbols.specs.AnyPrefix.{Storable, FallsFrom};
+use super::row::prefix_row;
 use charge::answers::Pushes;
 use charge::answers::no_pushes;
 use charge::judge::highest;
@@ -33,7 +33,7 @@ fn levels_along(levels: &[u16], cells: &[u8; 20], along: &mut [u16; 20])
 // How many of the first p cells of a row with these levels must be pushed. From the p-th up, a cell stands while it is above all behind it.
 fn store_count(along: &[u16], p: usize) -> usize
     requires { ⌜ p < length (now along) ⌝ }
-    ensures { λ r. ⌜ StandsFrom (now (along .entry)) p r ⌝ }
+    ensures { λ r. ⌜ FallsFrom (now (along .entry)) p r ⌝ }
 {
     let mut bound = highest(&along[p..]);
     let mut r = p;
@@ -50,7 +50,7 @@ fn store_count(along: &[u16], p: usize) -> usize
 
 // Where all of the first p stand, only the others can be tied.
 fn tied_along(along: &[u16], p: usize, r: usize) -> bool
-    requires { ⌜ StandsFrom (now along) p r ⌝ }
+    requires { ⌜ FallsFrom (now along) p r ⌝ }
     ensures { λ t. ⌜ t ≡ meaning.tied (now (along .entry)) ⌝ }
 {
     if r == 0 {

@@ -1,6 +1,6 @@
 -- Names in a list: whether one stands there, whether one stands twice, and what is left without some of them. Assumes nothing.
 use mathlib.Core.Path.{_≡_, refl, ap, sym, _∙_}
-use mathlib.Core.Bool.{Bool, true, false, not, _&&_, _||_, or-assoc, or-false, false≢true}
+use mathlib.Core.Bool.{Bool, true, false, not, _&&_, _||_, or-assoc, or-false, or-true, false≢true}
 use mathlib.Core.List.{List, [], _∷_, _++_}
 use Prim.Native.Nat.{ℕ, zero, suc, _-_, _≤_, _<_}
 use native.Mathlib.Nat.{le-of-suc-le-suc}
@@ -56,7 +56,7 @@ member-take c k xs m =
 pub member-drop : (c k : ℕ) (xs : List ℕ) → member c (drop k xs) ≡ true → member c xs ≡ true
 member-drop c k xs m =
     let whole : take k xs ++ drop k xs ≡ xs = take-append-drop k xs in
-    by-test (member c (take k xs)) (λ e. cc (member-append c (take k xs) (drop k xs))) (λ e. cc (member-append c (take k xs) (drop k xs)))
+    rw (← whole, member-append c (take k xs) (drop k xs), m) (or-true (member c (take k xs)))
 
 pub member-getD : (xs : List ℕ) (j : ℕ) → j < length xs → member (getD xs j 0) xs ≡ true
 member-getD [] j h = absurd (omega arith)

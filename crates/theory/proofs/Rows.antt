@@ -24,7 +24,7 @@ pub record Rearranged (xs ys : List ℕ) : Type 0 where
   pub same : Same xs ys
   pub long : length ys ≡ length xs
 
-pub bring-rearranged : (c : ℕ) (xs : List ℕ) → Distinct xs → member c xs ≡ true → Rearranged xs (bring c xs)
+bring-rearranged : (c : ℕ) (xs : List ℕ) → Distinct xs → member c xs ≡ true → Rearranged xs (bring c xs)
 bring-rearranged c xs d m = record {
   distinct = distinct-cons c (without (c ∷ []) xs) (cc (member-without c (c ∷ []) xs, eq-eqb c c refl)) (distinct-without (c ∷ []) xs d);
   same = λ b. by-name b c (λ q e. cc) (λ q e. cc (member-without b (c ∷ []) xs));

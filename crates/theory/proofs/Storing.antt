@@ -1,7 +1,7 @@
--- Storing a prefix in a permutation is the rewrite to the prefix with the other cells below it, and no shorter row of pushes brings the prefix to the top;
--- that the symbol of the prefix is read. Assumes nothing.
+-- Storing a prefix in a permutation is the rewrite to the prefix with the other cells below it; no shorter row of pushes leads to any permutation with that
+-- prefix, and its symbol is read. Assumes nothing.
 use mathlib.Core.Path.{_≡_, refl, ap, sym, _∙_}
-use mathlib.Core.Bool.{true, false, false≢true}
+use mathlib.Core.Bool.{true, false≢true}
 use mathlib.Core.List.{List, [], _∷_, _++_, reverse, Sublistᴰ}
 use Prim.Native.Nat.{ℕ, _≤_, _<_}
 use native.Mathlib.Omega.{arith}
@@ -26,7 +26,7 @@ use Rattle.theory.proofs.Prefixes.{begins-take, begins-append, prefix-a
 
 -- ---- the least r
 
-pub storeCount-most : (q xs : List ℕ) → storeCount q xs ≤ length q
+storeCount-most : (q xs : List ℕ) → storeCount q xs ≤ length q
 unfolding storeCount
 storeCount-most q xs = least-bound (restLeads q xs) (length q)
 
@@ -83,9 +83,6 @@ module _ (xs : List ℕ) (d : Distinct xs) (q : List ℕ) (dq : Distinct q) (h :
   pub others-below : Rearranged xs (q ++ without q xs)
   others-below = rw (upward-split xs d q dq h) at (upward-rearranged xs d q h)
 
-  others-front : (r : ℕ) → r ≤ length q → drop r (q ++ without q xs) ≡ drop r q ++ without q xs
-  others-front r l = drop-append-le r q (without q xs) l
-
   count-rewrites : storeCount q xs ≡ rewriteCount xs (q ++ without q xs)
   count-rewrites =
       let t : List ℕ = q ++ without q xs in
@@ -94,7 +91,7 @@ module _ (xs : List ℕ) (d : Distinct xs) (q : List ℕ) (dq : Distinct q) (h :
       let high : k ≤ length q = rewrite-least xs t (length q) (rw (drop-append-seam q (without q xs)) (without-sublist q xs)) in
       let down : k ≤ r =
       rewrite-least xs t r
-      (rw (others-front r (storeCount-most q xs), ← leads-others q xs r d (storeCount-leads q xs)) (without-sublist (take r q) xs)) in
+      (rw (drop-append-le r q (without q xs) (storeCount-most q xs), ← leads-others q xs r d (storeCount-leads q xs)) (without-sublist (take r q) xs)) in
       let up : r ≤ k =
       storeCount-least q xs k
       (rw (take-append-seam q (without q xs)) at
@@ -132,6 +129,8 @@ storing n p q xs prefix o =
     let fewest : (is : List ℕ) → Places n is → take p (pushes is xs) ≡ q → storeCount q xs ≤ length is =
     λ is places e. count-fewest xs d q (prefix .distinct) cells is (rw (o .long) places) (rw (prefix .long) e) in
     record {
+      leads = storeCount-leads q xs;
+      smallest = storeCount-least q xs;
       reaches = rw pushed (rewrite-reaches xs t d (below .distinct) (below .same));
       counted = count-rewrites xs d q (prefix .distinct) cells ∙ sym (ap length pushed ∙ rewrite-many xs t);
       cells = λ c m. prefix .named c (pushed-member q xs c m);

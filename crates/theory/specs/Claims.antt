@@ -16,7 +16,7 @@ use Rattle.theory.specs.Levels.{level, highest, lowest, tied, permutatio
 use Rattle.theory.specs.CountUp.{countUp, callNumber, callPushes, callLevels}
 use Rattle.theory.specs.Rewrite.{rewriteCount, rewritePushes}
 use Rattle.theory.specs.Prefix.{IsPrefix, prefixes, prefixAt, prefixNumber, prefixLength, symbolPrefix, symbolOf}
-use Rattle.theory.specs.Store.{storeCount, storePushes}
+use Rattle.theory.specs.Store.{restLeads, storeCount, storePushes}
 
 -- "Why a job is sent back": the number of each word
 pub record Reasons : Type 0 where
@@ -132,6 +132,9 @@ pub record Coding (n m : ℕ) : Type 0 where
 
 -- storing a prefix q of p cells in a permutation of n cells
 pub record Storing (n p : ℕ) (q xs : List ℕ) : Type 0 where
+  -- "the smallest r for which the order, with the prefix's first r cells taken out, begins with the rest of the prefix"
+  pub leads : restLeads q xs (storeCount q xs) ≡ true
+  pub smallest : (r : ℕ) → restLeads q xs r ≡ true → storeCount q xs ≤ r
   -- the prefix, and below it the other cells in their old sequence
   pub reaches : pushCells (storePushes q xs) xs ≡ q ++ without q xs
   -- by as many pushes as it counts, each of a cell, at a place 2 to n

@@ -10,7 +10,7 @@ use Rattle.theory.specs.Least.{least}
 abbrev pub restLeads : List ℕ → List ℕ → ℕ → Bool
 restLeads q xs r = begins (drop r q) (without (take r q) xs)
 
--- "Storing shall use the smallest r for which" that is so
+-- "Storing shall use the smallest r for which" that is so; at the prefix's length nothing is left of it, and it is so
 unfoldable pub storeCount : List ℕ → List ℕ → ℕ
 storeCount q xs = least (restLeads q xs) (length q)
 

@@ -5,7 +5,7 @@ use Prim.Native.Nat.{_-_, _≤_}
 use native.Mathlib.Omega.{arith}
 use borrow.Author.Needs.{needs}
 use lib.ListN.{length, getD, take, length-map}
-use lib.Seq.{length-take-le, getD-take}
+use lib.Seq.{getD-take}
 use Rattle.theory.specs.Levels.{level}
 use Rattle.theory.proofs.Members.{entry-inside}
 use Rattle.theory.proofs.FilledRow.{Filled, filled-none, filled-more, filled-all}
@@ -30,13 +30,13 @@ cell-inside c =
     let n = length (start .args .levels .now) in
     let i = c .before .before .before .loop .i in
     let is : c .wide .result ≡ getD (take n cells) i 0 = c .wide .ensures ∙ sym (getD-take n cells i 0 (c .before .before .loop-test .taken)) in
-    let b = entry-inside (start .pre .3) i (omega (arith, length-take-le n cells (omega arith))) in
+    let b = entry-inside (start .pre .3) i (omega (arith, start .pre .3 .long)) in
     (rw is (b .0), rw is (b .1), is)
 
 loop-holds : tie.Need-loop-holds Inv-loop μ-loop
 loop-holds c =
     let a = c .before .args in
-    filled-none (length-map (take (length (a .levels .now)) (a .cells .now)) (level (a .levels .now)) ∙ length-take-le (length (a .levels .now)) (a .cells .now) (omega arith)) (omega arith)
+    filled-none (length-map (take (length (a .levels .now)) (a .cells .now)) (level (a .levels .now)) ∙ c .before .pre .3 .long) (omega arith)
 
 element-copy-out-wide : tie.Need-element-copy-out-wide Inv-loop μ-loop
 element-copy-out-wide c = search needs
@@ -68,7 +68,7 @@ loop-again c =
     let more = c .before .before .before .loop-test .taken in
     let levels = start .args .levels .now in
     let row = take (length levels) (start .args .cells .now) in
-    let at = along-at levels row (c .before .before .before .before .loop .i) (omega (arith, length-take-le (length levels) (start .args .cells .now) (omega arith))) in
+    let at = along-at levels row (c .before .before .before .before .loop .i) (omega (arith, start .pre .3 .long)) in
     filled-more (c .before .before .before .before .loop .inv) more 0 (ap (level levels) (cell-inside (c .before) .2) ∙ sym at)
 
 returns : tie.Need-returns Inv-loop μ-loop

@@ -2,8 +2,8 @@
 use mathlib.Core.Path.{_≡_, ap, _∙_}
 use native.Mathlib.Omega.{arith}
 use borrow.Author.Needs.{needs}
+use borrow.Rule.Slice.PartAt.{part-to-end}
 use Rattle.theory.specs.Levels.{highest}
-use Rattle.symbols.proofs.Along.{from-index}
 use Rattle.symbols.proofs.Leading.{Rising, start, step, end}
 use Rattle.symbols.proofs.store.store_count.Statement.{statement}
 use Rattle.symbols.proofs.store.store_count.Tie as tie
@@ -29,7 +29,7 @@ part-highest-end c = search needs
 loop-holds : tie.Need-loop-holds Inv-loop μ-loop
 loop-holds c =
     let first = c .before .before .before in
-    start (first .pre) (c .highest .ensures ∙ ap highest (from-index (first .args .p) (first .args .along .now)))
+    start (first .pre) (c .highest .ensures ∙ ap highest (part-to-end (first .args .along .now) (first .args .p)))
 
 sub-level : tie.Need-sub-level Inv-loop μ-loop
 sub-level c = search needs

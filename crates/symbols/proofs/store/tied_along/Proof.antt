@@ -1,9 +1,10 @@
--- `symbols::store::tied_along` meets its contract. Assumes nothing.
+-- `symbols::store::tied_along` meets its contract: where each of the first p is above all behind it, a tie is among the others. Assumes nothing.
 use mathlib.Core.Path.{ap, _∙_}
 use native.Mathlib.Omega.{arith}
 use borrow.Author.Needs.{needs}
+use borrow.Rule.Slice.PartAt.{part-to-end}
 use Rattle.theory.specs.Levels.{tied}
-use Rattle.symbols.proofs.Along.{from-index, tied-others}
+use Rattle.symbols.proofs.Along.{tied-others}
 use Rattle.symbols.proofs.store.tied_along.Statement.{statement}
 use Rattle.symbols.proofs.store.tied_along.Tie as tie
 
@@ -23,7 +24,7 @@ returns : tie.Need-returns
 returns c =
     let start = c .before .before .before .before in
     let along = start .args .along .now in
-    c .tied .ensures ∙ ap tied (from-index (start .args .p) along)
+    c .tied .ensures ∙ ap tied (part-to-end along (start .args .p))
     ∙ tied-others along (start .args .p) (λ j l. start .pre .above j (omega (arith, c .before .before .if1 .taken)) l)
 
 returns-2 : tie.Need-returns-2

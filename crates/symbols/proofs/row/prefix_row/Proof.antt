@@ -1,4 +1,4 @@
--- `symbols::prefix::prefix_row` meets its contract: each test decides the number, and past them the symbol's prefix leads the row. Assumes nothing.
+-- `symbols::row::prefix_row` meets its contract: each test decides the number, and past them the symbol's prefix leads the row. Assumes nothing.
 use mathlib.Core.Path.{_≡_, refl, _∙_}
 use native.Mathlib.Omega.{arith}
 use lib.ListN.{getD}
@@ -7,8 +7,8 @@ use Rattle.theory.specs.Factorial.{factorial}
 use Rattle.theory.proofs.Refusal.{size-range, within-none, within-some}
 use Rattle.ranking.proofs.Table.{table-at}
 use Rattle.symbols.proofs.Prefixing.{Coded, row-refused, size-reason, too-large, no-symbol, short, fits, named-long, named-first, row-done}
-use Rattle.symbols.proofs.prefix.prefix_row.Statement.{statement}
-use Rattle.symbols.proofs.prefix.prefix_row.Tie as tie
+use Rattle.symbols.proofs.row.prefix_row.Statement.{statement}
+use Rattle.symbols.proofs.row.prefix_row.Tie as tie
 
 -- past the first test n is in its range
 sized : (c : tie.Else1) → sizeOf (c .before .before .args .n) ≡ 0

@@ -1,12 +1,12 @@
--- `symbols::prefix::choose` meets its contract: each turn takes one digit of s and puts the name that it chooses behind those chosen before.
+-- `symbols::row::choose` meets its contract: each turn takes one digit of s and puts the name that it chooses behind those chosen before.
 -- Assumes nothing.
 use mathlib.Core.Path.{refl}
 use Prim.Native.Nat.{_-_}
 use native.Mathlib.Omega.{arith}
 use borrow.Author.Needs.{needs}
 use Rattle.symbols.proofs.Choosing.{Choosing, start, long, turn, step, end}
-use Rattle.symbols.proofs.prefix.choose.Statement.{statement}
-use Rattle.symbols.proofs.prefix.choose.Tie as tie
+use Rattle.symbols.proofs.row.choose.Statement.{statement}
+use Rattle.symbols.proofs.row.choose.Tie as tie
 
 abbrev Inv-loop : tie.InvT-loop
 Inv-loop cells₀ n p count s weight₀ rest₀ i₀ cells weight rest i = Choosing n p s cells₀ cells weight rest i

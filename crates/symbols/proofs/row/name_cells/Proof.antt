@@ -1,4 +1,4 @@
--- `symbols::prefix::name_cells` meets its contract: each turn writes one more name over the row. Assumes nothing.
+-- `symbols::row::name_cells` meets its contract: each turn writes one more name over the row. Assumes nothing.
 use mathlib.Core.Path.{_≡_}
 use Prim.Native.Nat.{_+_, _-_}
 use native.Mathlib.Omega.{arith}
@@ -7,8 +7,8 @@ use lib.ListN.{getD}
 use Rattle.theory.specs.Lists.{names}
 use Rattle.theory.proofs.Names.{names-length, names-at}
 use Rattle.theory.proofs.FilledRow.{Filled, filled-none, filled-more, filled-all}
-use Rattle.symbols.proofs.prefix.name_cells.Statement.{statement}
-use Rattle.symbols.proofs.prefix.name_cells.Tie as tie
+use Rattle.symbols.proofs.row.name_cells.Statement.{statement}
+use Rattle.symbols.proofs.row.name_cells.Tie as tie
 
 abbrev Inv-loop : tie.InvT-loop
 Inv-loop cells₀ n i₀ cells i = Filled cells₀ (names n) n cells i
