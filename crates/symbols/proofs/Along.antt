@@ -4,20 +4,19 @@ use mathlib.Core.Bool.{true, false, false≢true}
 use mathlib.Core.List.{List, [], _∷_, map}
 use Prim.Native.Nat.{ℕ, zero, suc, _≤_, _<_}
 use native.Mathlib.Omega.{arith}
-use lib.ListN.{length, getD, drop}
+use lib.ListN.{length, getD, drop, length-map, List·getD-map}
 use Rattle.theory.specs.Lists.{member}
 use Rattle.theory.specs.Permutation.{IsPermutation}
 use Rattle.theory.specs.Levels.{level, highest, tied}
 use Rattle.theory.proofs.Cases.{by-test, by-name, by-le}
 use Rattle.theory.proofs.Permutations.{inside}
 use Rattle.theory.proofs.Members.{Distinct, permutation-distinct, member-count, count-member, member-first, member-later, distinct-head, distinct-tail, distinct-cons}
+use Rattle.theory.proofs.Padding.{getD-any}
 use Rattle.theory.proofs.Ties.{Apart, untied-apart, apart-untied}
 
 module _ (L : List ℕ) where
   pub along-at : (xs : List ℕ) (j : ℕ) → j < length xs → getD (map (level L) xs) j 0 ≡ level L (getD xs j 0)
-  along-at [] j h = absurd (omega arith)
-  along-at (x ∷ xs) zero h = refl
-  along-at (x ∷ xs) (suc j) h = along-at xs j (omega arith)
+  along-at xs j h = getD-any (map (level L) xs) j 0 (level L 0) (omega (arith, length-map xs (level L))) ∙ List·getD-map (level L) xs j 0
 
   pub along-drop : (k : ℕ) (xs : List ℕ) → drop k (map (level L) xs) ≡ map (level L) (drop k xs)
   along-drop zero xs = refl

@@ -5,7 +5,7 @@ pub struct Symbol {
     pub symbol: u64,
 }
 
-// A prefix: its length, and its cells with 0 past them.
+// A prefix: its length, and its cells with 0 past them. Inside the crate (`row`) the other names stand between.
 #[repr(C)]
 pub struct Prefixed {
     pub number: u8,

@@ -16,7 +16,7 @@ use Rattle.theory.specs.Factorial.{falling}
 use Rattle.theory.specs.Permutation.{placeOf}
 use Rattle.theory.specs.Prefix.{prefixes}
 use Rattle.theory.proofs.Cases.{by-test, by-name, by-le, by-order}
-use Rattle.theory.proofs.Members.{Distinct, Among, distinct-head, distinct-tail, distinct-cons, distinct-without, member-first, member-later, member-length, member-differs, member-getD, member-without, without-among, without-none, without-without, without-one-length}
+use Rattle.theory.proofs.Members.{Distinct, Among, distinct-head, distinct-tail, distinct-cons, distinct-without, member-first, member-later, member-differs, member-getD, member-without, without-among, without-one-length}
 use Rattle.theory.proofs.Names.{Ascending, ascending-distinct, ascending-without}
 use Rattle.theory.proofs.Places.{placeOf-low, placeOf-high, cellAt-placeOf, placeOf-getD}
 
@@ -168,14 +168,6 @@ over-tail c free q h = record {
     h .named b (member-later b c q m),
   );
 }
-
--- q and the names left without it are as many as all
-pub over-length : (free q : List ℕ) → Distinct free → Over free q → length q + length (without q free) ≡ length free
-over-length free [] d h = omega (arith, ap length (without-none [] free (λ c m. refl)))
-over-length free (c ∷ q) d h =
-    let m : member c free ≡ true = h .named c (member-first c q) in
-    let rest = over-length (without (c ∷ []) free) q (distinct-without (c ∷ []) free d) (over-tail c free q h) in
-    rw (← without-without q (c ∷ []) free) (omega (arith, without-one-length c free d m, member-length c free m))
 
 pub prefixOf-over : (p : ℕ) (free : List ℕ) (s : ℕ) → Distinct free → s < falling (length free) p → Over free (prefixOf p free s)
 unfolding prefixOf
