@@ -30,12 +30,13 @@ rmdir target/busy
 
 
 def expected_texts():
-    """The text of each sheet of crates/sheets, where it follows the sheet's name."""
+    """The text of each sheet of crates/sheets, where it follows the sheet's name. A line w after it tells of the sheet written again, and is no part of it."""
     names, rest, texts = (SHEETS / "args").read_text().split(), (SHEETS / "stdout").read_text(), {}
     for name, after in zip(names, names[1:] + [None]):
         assert rest.startswith(name + "\n"), name
         end = rest.index(f"\n{after}\n") + 1 if after else len(rest)
-        texts[name], rest = rest[len(name) + 1:end], rest[end:]
+        lines, rest = rest[len(name) + 1:end].splitlines(keepends=True), rest[end:]
+        texts[name] = "".join(line for line in lines if not line.startswith("w "))
     return texts
 
 

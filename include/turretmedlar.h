@@ -8,14 +8,14 @@
  * from the highest level to the lowest; place 1 is the top. A push raises one cell's level to the highest plus 1, so that the cell comes to place 1.
  *
  * Every answer starts with `number`. 0: the job is done. Any other number is the reason for which it is refused (enum tm_reason); then all other fields of
- * the answer are 0, and every lent list keeps its values. Where several reasons hold, the lowest number is given. Each function names its reasons; no other
- * can come from it.
+ * the answer are 0, and every lent list keeps its values. Where several reasons hold, the lowest number is given, but for tm_write_sheet, where the first met
+ * decides. Each function names its reasons; no other can come from it.
  *
  * What the caller sees to, since no proof reaches into C:
  * - an address that goes with a length has that many readable entries (writable ones where it is not const), aligned as their type asks; with length 0 the
  *   address is not used and may be NULL;
  * - two lists lent to one call do not overlap, and nobody else writes a lent list during the call, or reads one that the call may write;
- * - the stack has room: 256 KiB for tm_bench, 4 KiB for any other function (docs/PERFORMANCE.md has what was measured).
+ * - the stack has room: 256 KiB for tm_bench and tm_write_sheet, 4 KiB for any other function (docs/PERFORMANCE.md has what was measured).
  * The functions use no heap and no variables of their own, so that calls on different lists can run at the same time. */
 #ifndef TURRETMEDLAR_H
 #define TURRETMEDLAR_H
@@ -29,7 +29,7 @@ extern "C" {
 
 /* The version of this header and its library; README.md and the Rust package have the same. The second number counts landings (docs/landings/), each of which
  * may change what a caller sees; the third counts corrections since, which change nothing that a caller relies on. The first is 0 until a release. */
-#define TM_VERSION "0.8.0"
+#define TM_VERSION "0.9.0"
 /* The most cells of a group, and the places of a record's row. */
 #define TM_CELLS 20
 /* The most bytes of a sheet without fault; a longer one is faulty. */
@@ -37,17 +37,19 @@ extern "C" {
 /* A buffer of so many bytes has room for the text of any sheet. */
 #define TM_TEXT_BYTES 31344
 
-/* Document 01, "Why a job is sent back". */
+/* Document 01, "Why a job is sent back", and document 02's new number. */
 enum tm_reason {
     TM_DONE = 0,
     TM_SIZE = 1,    /* size: n is below 2 or above 20, for the group first, then for a target */
-    TM_FIT = 2,     /* fit: a target's n differs from the group's, a push list has fewer than n - 1 bytes, or a text buffer is too short */
+    TM_FIT = 2,     /* fit: a target's n differs from the group's, or a lent list is too short: a push list has fewer than n - 1 bytes, a text buffer fewer than the
+                       text, a list of tm_write_sheet fewer entries than the others say */
     TM_MUDDLE = 3,  /* muddle: a record is no permutation */
     TM_TIE = 4,     /* tie: two levels are equal */
     TM_VALUE = 5,   /* value: a rank, place, m or symbol is outside its range */
     TM_CEILING = 6, /* ceiling: the highest level plus the job's pushes exceeds 65,535 */
     TM_IDLE = 7,    /* idle: the levels' prefix is that of none of the m symbols */
-    TM_SHEET = 8    /* sheet: the bench sheet is ill-formed; printed in a text, never an answer's number */
+    TM_SHEET = 8,   /* sheet: a bench sheet is ill-formed, or what is held is in no sheet: a count, kind or group number is outside its range */
+    TM_PAPER = 9    /* paper: a lent list is shorter than the sheet that is to be written */
 };
 
 /* Document 01: an order. The first n places of `cells` hold each of 1 to n once, highest charge first; the places past n hold 0, and a record that has anything
@@ -87,6 +89,11 @@ typedef struct tm_symbol {
     uint8_t number;
     uint64_t symbol;
 } tm_symbol;
+
+typedef struct tm_written {
+    uint8_t number;
+    size_t length;
+} tm_written;
 
 typedef struct tm_printed {
     uint8_t number;
@@ -165,6 +172,36 @@ tm_symbol tm_read_symbol(const uint16_t *levels, size_t n, uint64_t m);
  * Refused: 2 fit, the text has more than `room` bytes. With TM_TEXT_BYTES it is never refused.
  * Unchanged: `sheet`, always, and the bytes of `text` after the text; refused, all of `text`. */
 tm_printed tm_bench(const uint8_t *sheet, size_t length, uint8_t *text, size_t room);
+
+/* Writes a bench sheet from groups and commands into the first bytes of `out`, which has `room` bytes. Gives the sheet's length: TM_SHEET_BYTES are always
+ * enough. What is written is read by tm_bench as these groups and commands, and a sheet that is read and then written has equal bytes.
+ *
+ * The groups and commands stand in six lists, one for each field, each followed by its length. Each group and each command has a row in a list, one after the
+ * other:
+ * - sizes: n of each group, so that its length is the number of groups;
+ * - levels: 20 places to a group, its levels by cell name; places past n are not looked at;
+ * - kinds: of each command, 1 count up, 2 rewrite, 3 store, so that its length is the number of commands;
+ * - groups: the group number of each command, from 0;
+ * - numbers: 2 places to a command: k of a count up, n of a rewrite's target (and in both a place that is not looked at), m and s of a store;
+ * - names: 20 places to a command, the row of a rewrite's target; those of other kinds are not looked at.
+ * What stands in a list past these rows is not looked at. Document 01's sheet, of 39 bytes:
+ *
+ *   size_t sizes[1] = {3};
+ *   uint16_t levels[1][TM_CELLS] = {{3, 1, 2}};
+ *   uint8_t kinds[3] = {1, 2, 3}, groups[3] = {0, 0, 0};
+ *   uint64_t numbers[3][2] = {{4}, {3}, {3, 3}};
+ *   uint8_t names[3][TM_CELLS] = {{0}, {3, 1, 2}};
+ *   uint8_t out[TM_SHEET_BYTES];
+ *   tm_written sheet = tm_write_sheet(sizes, 1, levels[0], TM_CELLS, kinds, 3, groups, 3, numbers[0], 6, names[0], 3 * TM_CELLS, out, sizeof out);
+ *
+ * Refused: 2 fit, a list is too short for the numbers of groups and of commands. Then the first met in the sheet's sequence: 8 sheet, there are not 1 to 64
+ * groups; for each group, 1 size, n is not 2 to 20, and 4 tie, two of its levels are equal; 8 sheet, there are more than 1,000 commands; for each command,
+ * 8 sheet, its kind is not 1 to 3, its k is above 4,294,967,295 or there is no such group, and for a rewrite, 2 fit, its n is not its group's, and 3 muddle, a name
+ * past n is not 0. The names inside n are not judged: tm_bench does so. After all these 9 paper, the sheet has more than `room` bytes.
+ * Unchanged: the six lists, always, and the bytes of `out` after the sheet; refused, all of `out`. */
+tm_written tm_write_sheet(const size_t *sizes, size_t sizes_length, const uint16_t *levels, size_t levels_length, const uint8_t *kinds, size_t kinds_length,
+                          const uint8_t *groups, size_t groups_length, const uint64_t *numbers, size_t numbers_length, const uint8_t *names, size_t names_length,
+                          uint8_t *out, size_t room);
 
 #ifdef __cplusplus
 }

@@ -13,9 +13,10 @@ _Static_assert(sizeof(tm_ranked) == 16 && offsetof(tm_ranked, rank) == 8, "tm_ra
 _Static_assert(sizeof(tm_pushes) == 8 && offsetof(tm_pushes, pushes) == 4, "tm_pushes");
 _Static_assert(sizeof(tm_symbol) == 16 && offsetof(tm_symbol, symbol) == 8, "tm_symbol");
 _Static_assert(sizeof(tm_printed) == 16 && offsetof(tm_printed, length) == 8, "tm_printed");
+_Static_assert(sizeof(tm_written) == 16 && offsetof(tm_written, length) == 8, "tm_written");
 
 /* The constants of compare/bindings/src/lib.rs. */
-_Static_assert(TM_CELLS == 20 && TM_SHEET_BYTES == 24627 && TM_TEXT_BYTES == 31344 && TM_SHEET == 8, "constants");
+_Static_assert(TM_CELLS == 20 && TM_SHEET_BYTES == 24627 && TM_TEXT_BYTES == 31344 && TM_SHEET == 8 && TM_PAPER == 9, "constants");
 
 static int passed, failed;
 
@@ -113,8 +114,10 @@ static void check_symbols(void) {
     CHECK(pushes(tm_store(tied, 4, 12, 6), TM_TIE, 0) && tm_read_symbol(tied, 4, 12).number == TM_TIE && pushes(tm_store(levels, 1, 1, 0), TM_SIZE, 0));
 }
 
+/* Document 01's bench sheet. */
+static const uint8_t sheet[] = {1, 3, 3, 0, 1, 0, 2, 0, 3, 0, 1, 0, 4, 0, 0, 0, 2, 0, 3, 1, 2, 3, 0, 3, 0, 0, 0, 0, 0, 0, 0, 3, 0, 0, 0, 0, 0, 0, 0};
+
 static void check_sheet(void) {
-    const uint8_t sheet[] = {1, 3, 3, 0, 1, 0, 2, 0, 3, 0, 1, 0, 4, 0, 0, 0, 2, 0, 3, 1, 2, 3, 0, 3, 0, 0, 0, 0, 0, 0, 0, 3, 0, 0, 0, 0, 0, 0, 0};
     const char expected[] = "c 1 0 4\nc 2 0 1\nc 3 5 0\ng 0 5 7 6 8\n", faulty[] = "s 8\n";
     const size_t length = sizeof expected - 1;
     uint8_t text[64], blank[64];
@@ -132,6 +135,53 @@ static void check_sheet(void) {
     CHECK(printed.number == TM_DONE && printed.length == 4 && memcmp(text, faulty, 4) == 0);
 }
 
+/* One group and three commands, in the lists of tm_write_sheet; those of that sheet are `paper`. */
+typedef struct held {
+    size_t sizes[1];
+    uint16_t levels[TM_CELLS];
+    uint8_t kinds[3], groups[3];
+    uint64_t numbers[6];
+    uint8_t names[3 * TM_CELLS];
+} held;
+static const held paper = {{3}, {3, 1, 2}, {1, 2, 3}, {0, 0, 0}, {4, 0, 3, 0, 3, 3}, {[TM_CELLS] = 3, 1, 2}};
+
+static tm_written write_held(held h, uint8_t *out, size_t room) {
+    return tm_write_sheet(h.sizes, 1, h.levels, TM_CELLS, h.kinds, 3, h.groups, 3, h.numbers, 6, h.names, 3 * TM_CELLS, out, room);
+}
+
+/* Refused by this number, and no byte altered. */
+static int unwritten(held h, size_t room, uint8_t number) {
+    uint8_t out[64], blank[64];
+    memset(out, 'x', sizeof out);
+    memset(blank, 'x', sizeof blank);
+    tm_written answer = write_held(h, out, room);
+    return answer.number == number && answer.length == 0 && memcmp(out, blank, sizeof out) == 0;
+}
+
+static void check_writing(void) {
+    uint8_t out[64], blank[64];
+    memset(out, 'x', sizeof out);
+    memset(blank, 'x', sizeof blank);
+    tm_written answer = write_held(paper, out, sizeof out);
+    CHECK(answer.number == TM_DONE && answer.length == sizeof sheet && memcmp(out, sheet, sizeof sheet) == 0);
+    CHECK(memcmp(out + sizeof sheet, blank, sizeof out - sizeof sheet) == 0);
+    CHECK(write_held(paper, out, sizeof sheet).number == TM_DONE && unwritten(paper, sizeof sheet - 1, TM_PAPER) && unwritten(paper, 0, TM_PAPER));
+    held unsized = paper, tied = paper, kind = paper, group = paper, count = paper, unfit = paper, muddled = paper, unseen = paper;
+    unsized.sizes[0] = 21;
+    tied.levels[2] = 3;
+    kind.kinds[2] = 4;
+    group.groups[2] = 1;
+    count.numbers[0] = 4294967296;
+    unfit.numbers[2] = 2;
+    muddled.names[TM_CELLS + 3] = 4;
+    CHECK(unwritten(unsized, 64, TM_SIZE) && unwritten(tied, 64, TM_TIE) && unwritten(unfit, 64, TM_FIT) && unwritten(muddled, 64, TM_MUDDLE));
+    CHECK(unwritten(kind, 64, TM_SHEET) && unwritten(group, 64, TM_SHEET) && unwritten(count, 64, TM_SHEET));
+    unseen.levels[3] = 3;
+    unseen.numbers[1] = unseen.numbers[3] = 9;
+    unseen.names[0] = unseen.names[2 * TM_CELLS] = 9;
+    CHECK(write_held(unseen, out, sizeof out).length == sizeof sheet && memcmp(out, sheet, sizeof sheet) == 0);
+}
+
 /* "with length 0 the address is not used and may be NULL" */
 static void check_null(void) {
     const tm_permutation target = {2, {1, 2}};
@@ -142,6 +192,11 @@ static void check_null(void) {
     CHECK(pushes(tm_store(NULL, 0, 1, 0), TM_SIZE, 0) && tm_read_symbol(NULL, 0, 1).number == TM_SIZE);
     CHECK(tm_bench(NULL, 0, NULL, 0).number == TM_FIT);
     CHECK(tm_bench(NULL, 0, text, sizeof text).length == 4 && memcmp(text, "s 8\n", 4) == 0);
+    const held *h = &paper;
+    CHECK(tm_write_sheet(NULL, 0, NULL, 0, NULL, 0, NULL, 0, NULL, 0, NULL, 0, NULL, 0).number == TM_SHEET);
+    CHECK(tm_write_sheet(h->sizes, 1, NULL, 0, NULL, 0, NULL, 0, NULL, 0, NULL, 0, NULL, 0).number == TM_FIT);
+    CHECK(tm_write_sheet(h->sizes, 1, h->levels, TM_CELLS, NULL, 0, NULL, 0, NULL, 0, NULL, 0, NULL, 0).number == TM_PAPER);
+    CHECK(tm_write_sheet(h->sizes, 1, h->levels, TM_CELLS, h->kinds, 1, NULL, 0, NULL, 0, NULL, 0, NULL, 0).number == TM_FIT);
 }
 
 int main(void) {
@@ -150,6 +205,7 @@ int main(void) {
     check_rewriting();
     check_symbols();
     check_sheet();
+    check_writing();
     check_null();
     printf("%d passed, %d failed\n", passed, failed);
     return failed != 0;

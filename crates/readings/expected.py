@@ -31,7 +31,7 @@ def do_walk(steps, every, n, *names):
 
 JOBS = dict(rank=do_rank, digits=do_digits, successor=do_successor, push=do_push, run_steps=do_run_steps, unrank=do_unrank, read=do_read,
             push_level=do_push_level, count_up=do_count_up, run_levels=do_run_levels, run_calls=do_run_calls, rewrite=do_rewrite, prefix=do_prefix,
-            store=do_store, read_symbol=do_read_symbol, symbols=do_symbols)
+            store=do_store, read_symbol=do_read_symbol, symbols=do_symbols, write=do_write)
 
 
 def answer(line):
@@ -64,6 +64,14 @@ LENGTHS = {4: 1, 5: 2, 12: 2, 13: 3}
 PREFIX, PREFIX_NUMBER = [3, 1], 6
 # Document 02, request 1: an order on which symbol 6 of 12 needs no push
 STANDING = [3, 1, 2, 4]
+# Document 02, request 2: document 01's sheet, held, and its bytes; held sheets that a sentence of the request sends back, with the number; the longest sheet
+HELD = "1 | 3 3 1 2 | 3 | 1 0 4 | 2 0 3 3 3 1 2 | 3 0 3 3"
+HELD_BYTES = "1 3 3 0 1 0 2 0 3 0 1 0 4 0 0 0 2 0 3 1 2 3 0 3 0 0 0 0 0 0 0 3 0 0 0 0 0 0 0"
+UNWRITTEN = {"write 9 | 65": 8, "write 9 | 1 | 21 1 2 3 4 5 6 7 8 9 10 11 12 13 14 15 16 17 18 19 20 | 0": 1, "write 9 | 1 | 2 7 7 | 0": 4,
+             "write 12 | 1 | 3 3 1 2 | 1001": 8, "write 20 | 1 | 2 7 9 | 1 | 1 1 4": 8, "write 20 | 1 | 3 3 1 2 | 1 | 2 0 2 2 2 1": 2,
+             "write 20 | 1 | 3 3 1 2 | 1 | 2 0 3 4 3 1 2 1": 3, "write 20 | 1 | 3 3 1 2 | 1 | 2 0 2 4 2 1 0 1": 2, "write 0 | 1 | 2 0 65535 | 0": 9,
+             "write 0 | 1 | 2 7 7 | 0": 4}
+LONGEST = 24627
 
 # Document 001. The text at hand has no pictures: of Example 1 it has the places, of Example 9 and Fig. 2 what is said of them, of the levels in Fig. 3 no numbers.
 EXAMPLE_1 = [2, 3, 3, 2, 3, 3]
@@ -249,6 +257,20 @@ def check_document_001(lines):
         assert all(unrank(n, rank(order)) == order and rank(step(order)) == (rank(order) + 1) % factorial(n) for order in orders)
 
 
+def check_writing(lines):
+    for room in (38, 39, 45):
+        expected = f"0 39 | {HELD_BYTES}" + " 9" * (room - 39) if room >= 39 else "9 0 |" + " 9" * room
+        assert f"write {room} | {HELD}" in lines and answer(f"write {room} | {HELD}").split(" : ")[1] == expected
+    for line, number in UNWRITTEN.items():
+        assert answer(line).split(" : ")[1].split(" |")[0] == f"{number} 0" and line in lines
+    for line in (line for line in lines if line.startswith("write ")):
+        room, *numbers = [int(word) for word in line.split() if word.isdigit()]
+        assert room <= 64 and len(numbers) < 64, "what the program reads of a line and lends"
+    group, rewrite = (20, [*range(20)]), (2, 63, 20, [*range(20)])
+    number, made = write_sheet(LONGEST, 64, [group] * 64, 1000, [rewrite] * 1000)
+    assert number == 0 and len(made) == LONGEST and write_sheet(LONGEST - 1, 64, [group] * 64, 1000, [rewrite] * 1000) == (9, [])
+
+
 def check_runs(lines):
     # from levels without a gap, top less bottom is at most n after every step and no push raises a cell by more than n + 1; in a round each cell is pushed (n-1)! times
     for n in range(2, 7):
@@ -264,6 +286,7 @@ check_document_01({*lines})
 check_document_001({*lines})
 check_symbols({*lines})
 check_stores({*lines})
+check_writing({*lines})
 check_runs({*lines})
 for line in lines:
     print(answer(line))

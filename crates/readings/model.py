@@ -1,5 +1,6 @@
-"""A model of document 01's rules on lists, as the paper words them, with the storing rule of document 02's request 1 in place of its own; nothing of the
-code. `expected.py` checks it against what documents 01, 02 and 001 print; the sheets of `sheets` are worked by it too."""
+"""A model of document 01's rules on lists, as the paper words them, with the storing rule of document 02's request 1 in place of its own and the writing of
+request 2; nothing of the code. `expected.py` checks it against what documents 01, 02 and 001 print; the sheets of `sheets` are worked and written by it too."""
+from itertools import chain, repeat
 from math import factorial, perm
 
 # The rules of document 01; that of storing is document 02's. An order is a list of names, place 1 first.
@@ -123,7 +124,7 @@ def store_pushes(order, prefix):
 
 
 # Why a job is sent back: the lowest of the numbers whose reason holds, 0 where none does.
-REASONS = dict(size=1, fit=2, muddle=3, tie=4, value=5, ceiling=6, idle=7, sheet=8)
+REASONS = dict(size=1, fit=2, muddle=3, tie=4, value=5, ceiling=6, idle=7, sheet=8, paper=9)
 
 
 def lowest(**holds):
@@ -286,3 +287,84 @@ def do_symbols(m, *levels):
         stored = do_store(s, m, *levels)
         words += [":", *stored, ":", *do_read_symbol(m, *stored[3:])]
     return words[1:]
+
+
+# Writing a sheet, document 02, request 2: "the first met in the sheet's sequence" decides. A held group is n and its levels; a held command is its kind, its group
+# number, and then k, or n and a row of names, or m and s.
+
+class Fault(Exception):
+    """Its argument is the number of the first fault met."""
+
+
+def refuse(word, holds):
+    if holds:
+        raise Fault(REASONS[word])
+
+
+def spelled(value, length):
+    """Low byte first."""
+    return [*value.to_bytes(length, "little")]
+
+
+def group_bytes(n, levels):
+    """n in one byte, then n levels of two bytes. Size is judged at the n byte and a tie after the group's last level."""
+    refuse("size", not sized(n))
+    refuse("tie", level_reasons(levels[:n])["tie"])
+    return [n] + [byte for level in levels[:n] for byte in spelled(level, 2)]
+
+
+def command_bytes(sizes, kind, g, *held):
+    """The kind byte, the group byte (0 to G - 1), then k in four bytes, n names, or m and s in eight bytes each. A rewrite whose n isn't its group's is fit, and
+    one with a name past n other than 0 is muddle, fit first."""
+    refuse("sheet", g >= len(sizes))
+    if kind == 2:
+        n, names = held
+        refuse("fit", n != sizes[g])
+        refuse("muddle", any(names[n:]))
+        return [kind, g, *names[:n]]
+    return [kind, g] + [byte for number in held for byte in spelled(number, {1: 4, 3: 8}[kind])]
+
+
+def sheet_bytes(group_count, groups, command_count, commands):
+    """The counts are judged before what they count is looked at."""
+    refuse("sheet", not 1 <= group_count <= 64)
+    made = [group_count] + [byte for group in groups for byte in group_bytes(*group)]
+    refuse("sheet", command_count > 1000)
+    sizes = [n for n, _ in groups]
+    return made + spelled(command_count, 2) + [byte for command in commands for byte in command_bytes(sizes, *command)]
+
+
+def write_sheet(room, *held):
+    """The number and the sheet's bytes. Paper, where fewer bytes are lent than the sheet has, comes after all others."""
+    try:
+        made = sheet_bytes(*held)
+        refuse("paper", room < len(made))
+    except Fault as fault:
+        return fault.args[0], []
+    return 0, made
+
+
+def held_group(left):
+    n = next(left)
+    return n, row([next(left) for _ in range(min(n, 20))])
+
+
+def held_command(left):
+    """Of a rewrite the line has n, how many names it has, and these."""
+    kind, g = next(left), next(left)
+    if kind == 2:
+        n, count = next(left), next(left)
+        return kind, g, n, row([next(left) for _ in range(min(count, 20))])
+    return kind, g, *[next(left) for _ in range({1: 1, 3: 2}.get(kind, 0))]
+
+
+def do_write(room, *numbers):
+    """A held sheet: the count of groups and each, the count of commands and each; where the line ends, zeros. Its bytes go to the start of the lent ones, and the
+    others keep their 9."""
+    left = chain(numbers, repeat(0))
+    group_count = next(left)
+    groups = [held_group(left) for _ in range(min(group_count, 64))]
+    command_count = next(left)
+    commands = [held_command(left) for _ in range(min(command_count, 1000))]
+    number, made = write_sheet(room, group_count, groups, command_count, commands)
+    return [number, len(made), "|", *made, *[9] * (room - len(made))]

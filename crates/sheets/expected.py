@@ -3,7 +3,8 @@
 
 The sheets are made below: `data/` gets their bytes, `args` their names, and `stdout` each name and the text after it; some go to `sheets/` at
 the root as examples. The text comes from a reader of bytes that follows document 01, "The bench sheet", and from the rules in the model of
-`readings`. Nothing of the code is used.
+`readings`. After the text of a sheet without fault, a line w says that it was written again from what was read: the number, the length, and 1 where the bytes are
+equal. Nothing of the code is used.
 
     python3 crates/sheets/expected.py
 """
@@ -13,14 +14,10 @@ from pathlib import Path
 
 HERE = Path(__file__).parent
 sys.path.insert(0, str(HERE.parent / "readings"))
-from model import REASONS, do_count_up, do_rewrite, do_store, rank, read, unrank
+from model import REASONS, Fault, do_count_up, do_rewrite, do_store, rank, read, row, spelled, unrank, write_sheet
 
 
 # Document 01's reader: the first fault met decides.
-
-
-class Fault(Exception):
-    pass
 
 
 SIZE, TIE, SHEET = REASONS["size"], REASONS["tie"], REASONS["sheet"]
@@ -56,17 +53,31 @@ def read_group(left):
 
 
 def read_command(left, groups):
-    """Its kind, its group number, and what it does on levels. A rewrite has as many names as its group has cells, and its push list is long enough."""
+    """Its kind, its group number, and k, as many names as its group has cells, or m and s."""
     kind = left.within(1, 1, 3)
     g = left.within(1, 0, len(groups) - 1)
-    if kind == 1:
-        k = left.number(4)
-        return kind, g, lambda levels: do_count_up(k, *levels)
     if kind == 2:
-        names = [left.number(1) for _ in groups[g]]
-        return kind, g, lambda levels: do_rewrite(len(names) - 1, len(levels), *levels, len(names), *names)
-    m, symbol = left.number(8), left.number(8)
-    return kind, g, lambda levels: do_store(symbol, m, *levels)
+        return kind, g, [left.number(1) for _ in groups[g]]
+    return kind, g, [left.number(length) for length in {1: [4], 3: [8, 8]}[kind]]
+
+
+def read_sheet(data):
+    left = Bytes(data)
+    groups = [read_group(left) for _ in range(left.within(1, 1, 64))]
+    commands = [read_command(left, groups) for _ in range(left.within(2, 0, 1000))]
+    if left.left:
+        raise Fault(SHEET)
+    return groups, commands
+
+
+def work(kind, held, levels):
+    """What a command does on levels. The push list of a rewrite is long enough."""
+    if kind == 1:
+        return do_count_up(*held, *levels)
+    if kind == 2:
+        return do_rewrite(len(held) - 1, len(levels), *levels, len(held), *held)
+    m, symbol = held
+    return do_store(symbol, m, *levels)
 
 
 MET = set()  # each kind of command with each number that it got
@@ -74,28 +85,29 @@ MET = set()  # each kind of command with each number that it got
 
 def text(data):
     """The lines that the program prints for a sheet."""
-    left = Bytes(data)
     try:
-        groups = [read_group(left) for _ in range(left.within(1, 1, 64))]
-        commands = [read_command(left, groups) for _ in range(left.within(2, 0, 1000))]
-        if left.left:
-            raise Fault(SHEET)
+        groups, commands = read_sheet(data)
     except Fault as fault:
         return [["s", *fault.args]]
     lines = []
-    for place, (kind, g, job) in enumerate(commands, 1):
-        number, pushes, _, *rest = job(groups[g])
+    for place, (kind, g, held) in enumerate(commands, 1):
+        number, pushes, _, *rest = work(kind, held, groups[g])
         groups[g] = rest[:len(groups[g])]
         lines.append(["c", place, number, pushes])
         MET.add((kind, number))
     return lines + [["g", g, rank(read(levels)), *levels] for g, levels in enumerate(groups)]
 
 
+def written(data):
+    """The line of a sheet without fault, which is written, from the groups and commands that were read, where there is room for any. Document 02, request 2:
+    "an accepted sheet, read and written, must have equal bytes"."""
+    groups, commands = read_sheet(data)
+    held = [(kind, g, len(rest), row(rest)) if kind == 2 else (kind, g, *rest) for kind, g, rest in commands]
+    number, made = write_sheet(24627, len(groups), [(len(levels), levels) for levels in groups], len(commands), held)
+    return ["w", number, len(made), int(made == data)]
+
+
 # Sheets: their parts as lists of bytes.
-
-
-def spelled(value, length):
-    return [*value.to_bytes(length, "little")]
 
 
 def group(*levels):
@@ -299,6 +311,7 @@ def main():
     assert len(LONGEST) == 24627
     assert not any(text(made)[0][0] == "s" for made in [*GOOD.values(), joined(part for _, part in PARTS)])
     assert all(text(made) == [["s", number]] for number, faulty in FAULTY.items() for made in faulty.values())
+    assert all(written(made) == ["w", 0, len(made), 1] for made in GOOD.values())
     assert MET == {(1, 0), (1, 6), (2, 0), (2, 3), (2, 6), (3, 0), (3, 5), (3, 6)}, "each refusal of each command is met"
     sheets = {**GOOD, **{name: made for faulty in FAULTY.values() for name, made in faulty.items()}}
     data = HERE / "data"
@@ -309,6 +322,8 @@ def main():
     for name, made in sheets.items():
         (data / name).write_bytes(bytes(made))
         lines += [[name], *text(made)]
+        if name in GOOD:
+            lines.append(written(made))
     for name in EXAMPLES:
         (HERE.parent.parent / "sheets" / name).write_bytes(bytes(sheets[name]))
     (HERE / "args").write_text("".join(name + "\n" for name in sheets))

@@ -4,18 +4,20 @@
 #![no_std]
 
 pub mod raw;
+mod sheet;
 
 use core::{error, fmt};
 pub use raw::Permutation;
+pub use sheet::{Action, Command, Group};
 
 /// The version of this package, as the header's `TM_VERSION` says it.
 pub const VERSION: &str = env!("CARGO_PKG_VERSION");
-/// The longest bench sheet.
+/// The longest bench sheet. A buffer of so many bytes has room for any.
 pub const SHEET_BYTES: usize = 24_627;
 /// A buffer of so many bytes has room for the text of any sheet.
 pub const TEXT_BYTES: usize = 31_344;
 
-/// Why a job is refused, by document 01's numbers and words. Where several hold, the lowest is given.
+/// Why a job is refused, by the numbers and words of documents 01 and 02. Where several hold, the lowest is given; of a sheet, the first met in its sequence.
 #[repr(u8)]
 #[derive(Clone, Copy, Debug, PartialEq, Eq, PartialOrd, Ord)]
 pub enum Reason {
@@ -23,7 +25,7 @@ pub enum Reason {
     Size = 1,
     /// A target's n differs from the group's, a push list has fewer than n - 1 bytes, or a text buffer is too short.
     Fit = 2,
-    /// A record is no permutation.
+    /// A record is no permutation; on a sheet to be written, it has a name past n.
     Muddle = 3,
     /// Two levels are equal.
     Tie = 4,
@@ -33,12 +35,14 @@ pub enum Reason {
     Ceiling = 6,
     /// The levels hold a prefix that is none of the m symbols'.
     Idle = 7,
-    /// A bench sheet is ill-formed. It stands in a text; no function gives it.
+    /// A bench sheet is ill-formed, as its text tells; or one to be written has no group, too many groups or commands, or a command whose group is not there.
     Sheet = 8,
+    /// The bytes lent are fewer than those of the sheet to be written.
+    Paper = 9,
 }
 
 /// Each reason beside its word, by number from 1.
-const REASONS: [(Reason, &str); 8] = [
+const REASONS: [(Reason, &str); 9] = [
     (Reason::Size, "size"),
     (Reason::Fit, "fit"),
     (Reason::Muddle, "muddle"),
@@ -47,6 +51,7 @@ const REASONS: [(Reason, &str); 8] = [
     (Reason::Ceiling, "ceiling"),
     (Reason::Idle, "idle"),
     (Reason::Sheet, "sheet"),
+    (Reason::Paper, "paper"),
 ];
 
 impl fmt::Display for Reason {
@@ -162,5 +167,17 @@ pub fn read_symbol(levels: &[u16], m: u64) -> Result<u64, Reason> {
 /// Refused: Fit.
 pub fn bench(sheet: &[u8], text: &mut [u8]) -> Result<usize, Reason> {
     let answer = raw::bench(sheet, text);
+    given(answer.number, answer.length)
+}
+
+/// Writes the bench sheet of these groups and commands to the first bytes of `out`, and gives their number; the later ones keep their values. [`SHEET_BYTES`] are
+/// always enough. [`bench()`] reads the same groups and commands from it. Document 01's example has the group `Group::new(&[3, 1, 2])?` and the commands
+/// `Command::count(0, 4)`, `Command::rewrite(0, Permutation::new(&[3, 1, 2])?)` and `Command::store(0, 3, 3)`: 39 bytes.
+/// It needs 256 KiB of stack.
+/// Refused, by the first that is met: Sheet, there is no group or more than 64; of each group in turn Size, then Tie; Sheet, there are more than 1,000 commands; of
+/// each command in turn Sheet, its group is not there, and of a rewrite Fit, its n is not the group's, then Muddle, a name past n is not 0; after all others Paper,
+/// `out` is shorter than the sheet. Names inside n, k, m and the symbol are written as they stand: the sheet's text tells which commands are refused.
+pub fn write_sheet(groups: &[Group], commands: &[Command], out: &mut [u8]) -> Result<usize, Reason> {
+    let answer = sheet::write(groups, commands, out);
     given(answer.number, answer.length)
 }

@@ -66,6 +66,14 @@ pub struct Printed {
     pub length: usize,
 }
 
+/// What [`write_sheet`] answers: the length of the sheet.
+#[repr(C)]
+#[derive(Clone, Copy, Debug, PartialEq, Eq)]
+pub struct Written {
+    pub number: u8,
+    pub length: usize,
+}
+
 // The layouts that compare/c/check.c asserts too.
 const _: () = assert!(size_of::<Permutation>() == 32 && offset_of!(Permutation, cells) == 8);
 const _: () = assert!(size_of::<Permuted>() == 40 && offset_of!(Permuted, permutation) == 8);
@@ -75,6 +83,7 @@ const _: () = assert!(size_of::<Ranked>() == 16 && offset_of!(Ranked, rank) == 8
 const _: () = assert!(size_of::<Pushes>() == 8 && offset_of!(Pushes, pushes) == 4);
 const _: () = assert!(size_of::<Symbol>() == 16 && offset_of!(Symbol, symbol) == 8);
 const _: () = assert!(size_of::<Printed>() == 16 && offset_of!(Printed, length) == 8);
+const _: () = assert!(size_of::<Written>() == 16 && offset_of!(Written, length) == 8);
 
 mod library {
     use super::*;
@@ -93,6 +102,22 @@ mod library {
         pub fn tm_store(levels: *mut u16, n: usize, m: u64, symbol: u64) -> Pushes;
         pub fn tm_read_symbol(levels: *const u16, n: usize, m: u64) -> Symbol;
         pub fn tm_bench(sheet: *const u8, length: usize, text: *mut u8, room: usize) -> Printed;
+        pub fn tm_write_sheet(
+            sizes: *const usize,
+            sizes_length: usize,
+            levels: *const u16,
+            levels_length: usize,
+            kinds: *const u8,
+            kinds_length: usize,
+            groups: *const u8,
+            groups_length: usize,
+            numbers: *const u64,
+            numbers_length: usize,
+            names: *const u8,
+            names_length: usize,
+            out: *mut u8,
+            room: usize,
+        ) -> Written;
     }
 }
 
@@ -144,4 +169,25 @@ pub fn read_symbol(levels: &[u16], m: u64) -> Symbol {
 
 pub fn bench(sheet: &[u8], text: &mut [u8]) -> Printed {
     unsafe { library::tm_bench(sheet.as_ptr(), sheet.len(), text.as_mut_ptr(), text.len()) }
+}
+
+pub fn write_sheet(sizes: &[usize], levels: &[u16], kinds: &[u8], groups: &[u8], numbers: &[u64], names: &[u8], out: &mut [u8]) -> Written {
+    unsafe {
+        library::tm_write_sheet(
+            sizes.as_ptr(),
+            sizes.len(),
+            levels.as_ptr(),
+            levels.len(),
+            kinds.as_ptr(),
+            kinds.len(),
+            groups.as_ptr(),
+            groups.len(),
+            numbers.as_ptr(),
+            numbers.len(),
+            names.as_ptr(),
+            names.len(),
+            out.as_mut_ptr(),
+            out.len(),
+        )
+    }
 }

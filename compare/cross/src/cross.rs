@@ -1,4 +1,5 @@
 //! One comparing function per exported function: the raw answer, the `Result` and every lent list afterwards, each beside the model's.
+use crate::held::{held, Rows};
 use crate::lent::{Entry, Lent};
 use std::fmt::Debug;
 use turretmedlar::{raw, Permutation, Reason};
@@ -6,14 +7,14 @@ use turretmedlar::{raw, Permutation, Reason};
 /// The comparisons of one test, counted by the reason's number.
 #[derive(Default)]
 pub struct Cross {
-    cases: [u64; 9],
+    cases: [u64; 10],
 }
 
 impl Cross {
     /// Ends a test: prints its number of cases, and holds that they met these numbers (0 is done) and no others.
     pub fn met(self, numbers: &[usize]) {
         let test = std::thread::current().name().unwrap_or_default().to_string();
-        let met: Vec<usize> = (0..9).filter(|&number| self.cases[number] > 0).collect();
+        let met: Vec<usize> = (0..10).filter(|&number| self.cases[number] > 0).collect();
         let each: Vec<String> = met.iter().map(|&number| format!("{number}: {}", self.cases[number])).collect();
         println!("{test}: {} cases, by number {}", self.cases.iter().sum::<u64>(), each.join(", "));
         assert_eq!(met, numbers, "the numbers met in {test}");
@@ -26,6 +27,14 @@ impl Cross {
         let safe = safe.map_err(|reason| reason as u8);
         let expected = expected.map_err(|reason| reason as u8);
         assert_eq!(safe, expected, "the result of {case:?}");
+        self.agree_raw(case, expected, raw);
+    }
+
+    /// The raw answer alone, for what no `Result` is given of.
+    fn agree_raw<T>(&mut self, case: &dyn Debug, expected: Result<T, u8>, raw: (u8, T))
+    where
+        T: Default + PartialEq + Debug,
+    {
         let whole = expected.map_or_else(|number| (number, T::default()), |value| (0, value));
         assert_eq!(raw, whole, "the raw answer to {case:?}");
         self.cases[usize::from(whole.0)] += 1;
@@ -155,6 +164,35 @@ impl Cross {
             self.cases[0] -= 1;
             self.cases[usize::from(text[2] - b'0')] += 1;
         }
+    }
+
+    /// A held sheet by its types, then by its lists. Gives its bytes, or the number for which it is refused.
+    pub fn write_sheet(&mut self, sheet: &model::Sheet, out: &[u8]) -> Result<Vec<u8>, u8> {
+        let case = ("write_sheet", sheet, out.len());
+        let mut expected_out = out.to_vec();
+        let expected = model::write_sheet(sheet, &mut expected_out).map_err(|reason| reason as u8);
+        let (groups, commands) = held(sheet);
+        let mut lent = Lent::exact(out);
+        let safe = turretmedlar::write_sheet(&groups, &commands, lent.list());
+        lent.check(&expected_out, &case);
+        assert_eq!(safe.map_err(|reason| reason as u8), expected, "the result of {case:?}");
+        self.write_rows(&Rows::of(sheet), out)
+    }
+
+    /// The same by lists, which may be wrong, lent first guarded, then exact.
+    pub fn write_rows(&mut self, rows: &Rows, out: &[u8]) -> Result<Vec<u8>, u8> {
+        let case = ("write_rows", rows, out.len());
+        let mut expected_out = out.to_vec();
+        let expected = rows.sheet().and_then(|sheet| model::write_sheet(&sheet, &mut expected_out)).map_err(|reason| reason as u8);
+        let [raw, again] = [true, false].map(|guarded| {
+            let mut lent = Lent::of(out, guarded);
+            let answer = rows.write(guarded, lent.list(), &case);
+            lent.check(&expected_out, &case);
+            answer
+        });
+        assert_eq!(raw, again, "the raw answers to {case:?}");
+        self.agree_raw(&case, expected, raw);
+        expected.map(|length| expected_out[..length].to_vec())
     }
 }
 

@@ -23,7 +23,19 @@ impl Entry for u16 {
     }
 }
 
-/// Bytes to lend, none of which a job would write.
+impl Entry for u64 {
+    fn guard(index: usize) -> u64 {
+        0xBAD0_BAD0_BAD0_BAD0 ^ index as u64
+    }
+}
+
+impl Entry for usize {
+    fn guard(index: usize) -> usize {
+        u64::guard(index) as usize
+    }
+}
+
+/// Bytes to lend, none of which is a name, a character of a text or a 0.
 pub fn fill(length: usize) -> Vec<u8> {
     (0..length).map(|index| 255 - (index % 101) as u8).collect()
 }
@@ -43,6 +55,14 @@ impl<T: Entry> Lent<T> {
 
     pub fn exact(list: &[T]) -> Lent<T> {
         Lent { whole: list.into(), guards: 0 }
+    }
+
+    pub fn of(list: &[T], guarded: bool) -> Lent<T> {
+        if guarded {
+            Lent::guarded(list)
+        } else {
+            Lent::exact(list)
+        }
     }
 
     pub fn list(&mut self) -> &mut [T] {

@@ -3,10 +3,12 @@
 
 pub mod cases;
 mod cross;
+mod held;
 mod lent;
 mod random;
 pub mod sheet;
 
 pub use cross::{twin, Cross};
+pub use held::{held, Rows};
 pub use lent::{fill, Lent};
 pub use random::Random;

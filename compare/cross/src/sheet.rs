@@ -1,6 +1,7 @@
 //! Bench sheets from their parts.
 use crate::cases::{factorial, falling};
 use crate::Random;
+use std::path::Path;
 
 pub fn count_up(group: usize, k: u32) -> Vec<u8> {
     [&[1, group as u8], &k.to_le_bytes()[..]].concat()
@@ -26,9 +27,33 @@ pub fn sheet(groups: &[Vec<u16>], commands: &[Vec<u8>]) -> Vec<u8> {
     bytes
 }
 
-/// Document 01's example, with other levels.
+/// Document 01's example, byte by byte.
+pub const EXAMPLE: [u8; 39] = [1, 3, 3, 0, 1, 0, 2, 0, 3, 0, 1, 0, 4, 0, 0, 0, 2, 0, 3, 1, 2, 3, 0, 3, 0, 0, 0, 0, 0, 0, 0, 3, 0, 0, 0, 0, 0, 0, 0];
+
+/// That example, with other levels.
 pub fn example(levels: [u16; 3]) -> Vec<u8> {
     sheet(&[levels.to_vec()], &[count_up(0, 4), rewrite(0, &[3, 1, 2]), store(0, 3, 3)])
+}
+
+/// Small sheets with all three kinds, near the ceiling, so that no damage to them makes a long run.
+pub fn small_sheets() -> [Vec<u8>; 2] {
+    let groups = [vec![65_500, 65_501], vec![65_200, 65_100, 65_300, 4]];
+    let commands = [store(1, 24, 17), count_up(1, 30), rewrite(0, &[2, 1]), rewrite(1, &[3, 1, 4, 2]), count_up(0, 33), store(0, 2, 1)];
+    [example([65_400, 65_200, 65_333]), sheet(&groups, &commands)]
+}
+
+/// The longest sheet: 64 groups of 20 cells and 1,000 rewrites.
+pub fn longest(random: &mut Random) -> Vec<u8> {
+    let groups: Vec<Vec<u16>> = (0..64).map(|_| random.group(20)).collect();
+    let commands: Vec<Vec<u8>> = (0..1000).map(|command| rewrite(command % 64, &random.names(20))).collect();
+    sheet(&groups, &commands)
+}
+
+/// The sheets that the program `sheets` works, good and faulty.
+pub fn of_the_repository() -> Vec<Vec<u8>> {
+    let folder = Path::new(env!("CARGO_MANIFEST_DIR")).join("../../crates/sheets/data");
+    let entries = folder.read_dir().expect("the folder of sheets");
+    entries.map(|entry| std::fs::read(entry.expect("a sheet").path()).expect("the bytes of a sheet")).collect()
 }
 
 /// A command to a group of n cells, most often with an argument that may be done.

@@ -1,8 +1,7 @@
 //! Whole bench sheets, good and damaged, with text buffers of every length.
 use cross::cases::pairs;
-use cross::sheet::{count_up, example, random_sheet, rewrite, sheet, store};
+use cross::sheet::{count_up, example, longest, of_the_repository, random_sheet, sheet, small_sheets, store, EXAMPLE};
 use cross::{fill, Cross, Random};
-use std::path::Path;
 use turretmedlar::{SHEET_BYTES, TEXT_BYTES};
 
 /// Works through a sheet with a buffer a little longer than its text, which is given.
@@ -22,26 +21,11 @@ fn about(needed: usize) -> Vec<usize> {
     vec![0, 1, needed - 1, needed, needed + 1, TEXT_BYTES, TEXT_BYTES + 7]
 }
 
-/// Small sheets with all three kinds, near the ceiling, so that no damage to them makes a long run.
-fn small_sheets() -> [Vec<u8>; 2] {
-    let groups = [vec![65_500, 65_501], vec![65_200, 65_100, 65_300, 4]];
-    let commands = [store(1, 24, 17), count_up(1, 30), rewrite(0, &[2, 1]), rewrite(1, &[3, 1, 4, 2]), count_up(0, 33), store(0, 2, 1)];
-    [example([65_400, 65_200, 65_333]), sheet(&groups, &commands)]
-}
-
-/// The longest sheet: 64 groups of 20 cells and 1,000 rewrites.
-fn longest(random: &mut Random) -> Vec<u8> {
-    let groups: Vec<Vec<u16>> = (0..64).map(|_| random.group(20)).collect();
-    let commands: Vec<Vec<u8>> = (0..1000).map(|command| rewrite(command % 64, &random.names(20))).collect();
-    sheet(&groups, &commands)
-}
-
 #[test]
 fn the_example_of_document_01() {
     let mut cross = Cross::default();
-    let bytes = [1, 3, 3, 0, 1, 0, 2, 0, 3, 0, 1, 0, 4, 0, 0, 0, 2, 0, 3, 1, 2, 3, 0, 3, 0, 0, 0, 0, 0, 0, 0, 3, 0, 0, 0, 0, 0, 0, 0];
-    assert_eq!(example([3, 1, 2]), bytes);
-    assert_eq!(work(&mut cross, &bytes), b"c 1 0 4\nc 2 0 1\nc 3 5 0\ng 0 5 7 6 8\n");
+    assert_eq!(example([3, 1, 2]), EXAMPLE);
+    assert_eq!(work(&mut cross, &EXAMPLE), b"c 1 0 4\nc 2 0 1\nc 3 5 0\ng 0 5 7 6 8\n");
     cross.met(&[0]);
 }
 
@@ -196,11 +180,7 @@ fn a_text_near_the_longest() {
 #[test]
 fn the_sheets_of_the_repository() {
     let mut cross = Cross::default();
-    let folder = Path::new(env!("CARGO_MANIFEST_DIR")).join("../../crates/sheets/data");
-    for entry in folder.read_dir().expect("the folder of sheets") {
-        let path = entry.expect("a sheet").path();
-        work(&mut cross, &std::fs::read(path).expect("the bytes of a sheet"));
-    }
+    of_the_repository().iter().for_each(|sheet| drop(work(&mut cross, sheet)));
     cross.met(&[0, 1, 4, 8]);
 }
 

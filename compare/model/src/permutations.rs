@@ -27,8 +27,8 @@ impl Permutation {
 }
 
 /// "A row of twenty with 0 past n"
-fn padded(values: &[u8]) -> [u8; 20] {
-    let mut row = [0; 20];
+pub(crate) fn padded<T: Copy + Default>(values: &[T]) -> [T; 20] {
+    let mut row = [T::default(); 20];
     row[..values.len()].copy_from_slice(values);
     row
 }

@@ -1,6 +1,6 @@
 //! Why a job is refused.
 
-/// The number of the reason for which a job is refused: 1 size .. 8 sheet.
+/// The number of the reason for which a job is refused: 1 size .. 9 paper.
 #[derive(Clone, Copy, Debug, PartialEq, Eq, PartialOrd, Ord)]
 pub enum Reason {
     Size = 1,
@@ -11,9 +11,10 @@ pub enum Reason {
     Ceiling,
     Idle,
     Sheet,
+    Paper,
 }
 
-/// `reason`, when it holds. Checks follow each other by rising number, so the lowest number is given.
+/// `reason`, when it holds. Checks follow each other by rising number, so the lowest number is given; those of a sheet by its sequence, so the first met is.
 pub(crate) fn refuse_if(holds: bool, reason: Reason) -> Result<(), Reason> {
     if holds {
         Err(reason)

@@ -1,90 +1,64 @@
-//! A bench sheet, from its bytes.
+//! A bench sheet, held in memory.
 
-use crate::levels::names_by_level;
-use crate::permutations::Permutation;
-use crate::reason::{check_size, refuse_if, Reason};
+use crate::permutations::{padded, Permutation};
+use crate::reason::{refuse_if, Reason};
 
 /// "One of three kinds"
-pub(crate) enum Job {
+#[derive(Clone, Copy, Debug, PartialEq, Eq)]
+pub enum Job {
     CountUp { k: u32 },
     Rewrite { target: Permutation },
     Store { m: u64, symbol: u64 },
 }
 
 /// "Each command carries its group number and one of three kinds."
-pub(crate) struct Command {
-    pub(crate) group: usize,
-    pub(crate) job: Job,
+#[derive(Clone, Copy, Debug, PartialEq, Eq)]
+pub struct Command {
+    pub group: u8,
+    pub job: Job,
 }
 
-/// A sheet without fault.
-pub(crate) struct Sheet {
-    pub(crate) groups: Vec<Vec<u16>>,
-    pub(crate) commands: Vec<Command>,
+/// n and a row of twenty levels, "entry by cell name", as handed in; it may be wrong. The places past n are on no sheet.
+#[derive(Clone, Copy, Debug, PartialEq, Eq)]
+pub struct Group {
+    pub n: usize,
+    pub levels: [u16; 20],
 }
 
-/// The bytes not yet read.
-struct Bytes<'a>(&'a [u8]);
-
-impl<'a> Bytes<'a> {
-    /// "An early end"
-    fn take(&mut self, count: usize) -> Result<&'a [u8], Reason> {
-        refuse_if(self.0.len() < count, Reason::Sheet)?;
-        let (taken, rest) = self.0.split_at(count);
-        self.0 = rest;
-        Ok(taken)
+impl Group {
+    /// At most 20 levels.
+    pub fn from_levels(levels: &[u16]) -> Group {
+        Group { n: levels.len(), levels: padded(levels) }
     }
 
-    /// "Low byte first", at most eight bytes.
-    fn number(&mut self, width: usize) -> Result<u64, Reason> {
-        let bytes = self.take(width)?;
-        Ok(bytes.iter().rev().fold(0, |number, &byte| number << 8 | u64::from(byte)))
+    /// "Its charge is a lent list of 16-bit charge levels"; n is checked already.
+    pub(crate) fn charge(&self) -> &[u16] {
+        &self.levels[..self.n]
+    }
+
+    pub(crate) fn charge_mut(&mut self) -> &mut [u16] {
+        &mut self.levels[..self.n]
     }
 }
 
-/// "The sheet is checked from its first byte, and the first fault met decides."
-pub(crate) fn read_sheet(bytes: &[u8]) -> Result<Sheet, Reason> {
-    let mut bytes = Bytes(bytes);
-    let groups = read_groups(&mut bytes)?;
-    let commands = read_commands(&mut bytes, &groups)?;
-    refuse_if(!bytes.0.is_empty(), Reason::Sheet)?;
-    Ok(Sheet { groups, commands })
+/// "Groups and commands held in memory", as handed in or without fault. The counts are the lists' lengths.
+#[derive(Clone, Debug, PartialEq, Eq)]
+pub struct Sheet {
+    pub groups: Vec<Group>,
+    pub commands: Vec<Command>,
 }
 
-/// "Groups: count G in one byte, 1 to 64."
-fn read_groups(bytes: &mut Bytes) -> Result<Vec<Vec<u16>>, Reason> {
-    let count = bytes.number(1)?;
-    refuse_if(!(1..=64).contains(&count), Reason::Sheet)?;
-    (0..count).map(|_| read_group(bytes)).collect()
+/// "Count G in one byte, 1 to 64"
+pub(crate) fn check_groups(count: usize) -> Result<(), Reason> {
+    refuse_if(!(1..=64).contains(&count), Reason::Sheet)
 }
 
-/// "Each has n in one byte, then n levels of two bytes." "Size is judged at the n byte and a tie after the group's last level."
-fn read_group(bytes: &mut Bytes) -> Result<Vec<u16>, Reason> {
-    let n = bytes.number(1)? as usize;
-    check_size(n)?;
-    let levels: Vec<u16> = (0..n).map(|_| Ok(bytes.number(2)? as u16)).collect::<Result<_, Reason>>()?;
-    names_by_level(&levels)?;
-    Ok(levels)
+/// "Count in two bytes, 0 to 1,000"
+pub(crate) fn check_commands(count: usize) -> Result<(), Reason> {
+    refuse_if(count > 1000, Reason::Sheet)
 }
 
-/// "Commands: count in two bytes, 0 to 1,000."
-fn read_commands(bytes: &mut Bytes, groups: &[Vec<u16>]) -> Result<Vec<Command>, Reason> {
-    let count = bytes.number(2)?;
-    refuse_if(count > 1000, Reason::Sheet)?;
-    (0..count).map(|_| read_command(bytes, groups)).collect()
-}
-
-/// "The kind byte comes first, then the group byte (0 to G - 1). Kind 1 is count up, with k in four bytes.
-/// Kind 2 is rewrite, with n names. Kind 3 is store, with m and s in eight bytes each."
-fn read_command(bytes: &mut Bytes, groups: &[Vec<u16>]) -> Result<Command, Reason> {
-    let kind = bytes.number(1)?;
-    refuse_if(!(1..=3).contains(&kind), Reason::Sheet)?;
-    let group = bytes.number(1)? as usize;
-    refuse_if(group >= groups.len(), Reason::Sheet)?;
-    let job = match kind {
-        1 => Job::CountUp { k: bytes.number(4)? as u32 },
-        2 => Job::Rewrite { target: Permutation::from_names(bytes.take(groups[group].len())?) },
-        _ => Job::Store { m: bytes.number(8)?, symbol: bytes.number(8)? },
-    };
-    Ok(Command { group, job })
+/// "The group byte (0 to G - 1)"
+pub(crate) fn group_of(groups: &[Group], number: u8) -> Result<&Group, Reason> {
+    groups.get(usize::from(number)).ok_or(Reason::Sheet)
 }

@@ -2,8 +2,9 @@
 
 use crate::levels::{count_up, rewrite, sorted_names};
 use crate::permutations::rank_of_names;
+use crate::reader::read_sheet;
 use crate::reason::Reason;
-use crate::sheet::{read_sheet, Job, Sheet};
+use crate::sheet::{Job, Sheet};
 use crate::symbols::store;
 
 /// The whole printed text of a bench sheet. "A faulty sheet gives one line: s, number." "Only a sheet without fault starts work."
@@ -30,15 +31,15 @@ fn line(text: &mut Vec<u8>, mark: u8, numbers: impl IntoIterator<Item = u64>) {
 fn work(text: &mut Vec<u8>, sheet: Sheet) {
     let Sheet { mut groups, commands } = sheet;
     for (place, command) in (1..).zip(&commands) {
-        let (number, pushes) = match perform(&mut groups[command.group], &command.job) {
+        let (number, pushes) = match perform(groups[usize::from(command.group)].charge_mut(), &command.job) {
             Ok(pushes) => (0, pushes),
             Err(reason) => (reason as u64, 0),
         };
         line(text, b'c', [place, number, u64::from(pushes)]);
     }
-    for (number, levels) in (0..).zip(&groups) {
-        let rank = rank_of_names(&sorted_names(levels));
-        let levels = levels.iter().map(|&level| u64::from(level));
+    for (number, group) in (0..).zip(&groups) {
+        let rank = rank_of_names(&sorted_names(group.charge()));
+        let levels = group.charge().iter().map(|&level| u64::from(level));
         line(text, b'g', [number, rank].into_iter().chain(levels));
     }
 }

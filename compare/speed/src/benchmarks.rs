@@ -1,7 +1,7 @@
 //! The list of benchmarks. No input is refused: `unwrap` holds this for both sides.
 use crate::pair::{pair, Pair};
 use cross::cases::{factorial, record};
-use cross::{twin, Random};
+use cross::{held, twin, Random};
 use std::path::Path;
 
 pub struct Benchmark {
@@ -27,6 +27,8 @@ const SHEETS: [(&str, &str, usize); 5] = [
     ("thousand-counts", "64 groups, 1,000 count-ups of 60", 10),
     ("thousand-stores", "64 groups, 1,000 stores", 10),
 ];
+/// Those that are written too.
+const WRITTEN: [&str; 3] = ["paper", "longest", "thousand-stores"];
 
 type OfSize = fn(usize) -> Box<dyn Pair>;
 
@@ -48,8 +50,13 @@ pub fn benchmarks() -> Vec<Benchmark> {
         let build = |n| Box::new(move || count_up(n, k, count));
         list.extend(SIZES.map(|n| Benchmark { name: format!("count_up by {text}"), n: Some(n), passes: 1, build: build(n) }));
     }
-    list.extend(SHEETS.map(|(file, text, passes)| Benchmark { name: format!("sheet: {text}"), n: None, passes, build: Box::new(move || bench(&sheet(file))) }));
+    list.extend(SHEETS.map(|row| of_sheet("sheet", bench, row)));
+    list.extend(SHEETS.into_iter().filter(|row| WRITTEN.contains(&row.0)).map(|row| of_sheet("write", write, row)));
     list
+}
+
+fn of_sheet(word: &str, job: fn(&[u8]) -> Box<dyn Pair>, (file, text, passes): (&'static str, &str, usize)) -> Benchmark {
+    Benchmark { name: format!("{word}: {text}"), n: None, passes, build: Box::new(move || job(&sheet(file))) }
 }
 
 pub fn sheet(file: &str) -> Vec<u8> {
@@ -161,7 +168,7 @@ fn stores(n: usize, symbol: impl Fn(&mut Random, &[u16]) -> u64) -> Box<dyn Pair
     )
 }
 
-/// A printed text at the start of a buffer.
+/// A printed text, or a sheet that is written, at the start of a buffer that has room for any.
 #[derive(Debug)]
 struct Text {
     buffer: Vec<u8>,
@@ -188,5 +195,14 @@ fn bench(sheet: &[u8]) -> Box<dyn Pair> {
             text.buffer = model::bench(sheet);
             text.length = text.buffer.len();
         },
+    )
+}
+
+fn write(bytes: &[u8]) -> Box<dyn Pair> {
+    let sheet = model::read_sheet(bytes).expect("a sheet without fault");
+    pair(
+        vec![(held(&sheet), sheet)],
+        |((groups, commands), _), text: &mut Text| text.length = turretmedlar::write_sheet(groups, commands, &mut text.buffer).unwrap(),
+        |(_, sheet), text: &mut Text| text.length = model::write_sheet(sheet, &mut text.buffer).unwrap(),
     )
 }

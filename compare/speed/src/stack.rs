@@ -1,7 +1,7 @@
 //! The least stack on which some jobs run, by a thread of a process of its own: a stack that is too small ends it.
 use crate::benchmarks::{levels, sheet};
 use cross::cases::{factorial, record};
-use cross::Random;
+use cross::{held, Random};
 use std::process::{Command, Stdio};
 use std::thread::Builder;
 
@@ -10,7 +10,7 @@ pub const STACK: &str = "stack";
 
 const STEP: usize = 16;
 
-const JOBS: [(&str, fn()); 7] = [
+const JOBS: [(&str, fn()); 9] = [
     ("rank", || done(turretmedlar::rank(permutation()))),
     ("unrank", || done(turretmedlar::unrank(20, factorial(20) - 1))),
     ("count_up by 60,000", || done(turretmedlar::count_up(&mut low(), 60_000))),
@@ -18,6 +18,8 @@ const JOBS: [(&str, fn()); 7] = [
     ("store", || done(turretmedlar::store(&mut low(), factorial(20), factorial(20) - 1))),
     ("bench, 1,000 rewrites", || bench("longest")),
     ("bench, 1,000 stores", || bench("thousand-stores")),
+    ("write_sheet, 1,000 rewrites", || write("longest")),
+    ("write_sheet, 1,000 stores", || write("thousand-stores")),
 ];
 
 fn permutation() -> turretmedlar::Permutation {
@@ -31,6 +33,12 @@ fn low() -> [u16; 20] {
 /// The sheet and the text are not on the stack.
 fn bench(file: &str) {
     done(turretmedlar::bench(&sheet(file), &mut vec![0; turretmedlar::TEXT_BYTES]));
+}
+
+/// Neither are the groups and commands, nor the sheet that is written.
+fn write(file: &str) {
+    let (groups, commands) = held(&model::read_sheet(&sheet(file)).expect("a sheet without fault"));
+    done(turretmedlar::write_sheet(&groups, &commands, &mut vec![0; turretmedlar::SHEET_BYTES]));
 }
 
 fn done<T>(answer: Result<T, turretmedlar::Reason>) {

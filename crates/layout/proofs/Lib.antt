@@ -1,4 +1,3 @@
 -- Laws that the proofs of the functions use.
 pub mod Decimal
-pub mod Putting
 pub mod Pieces

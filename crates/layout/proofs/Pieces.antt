@@ -11,9 +11,10 @@ use Rattle.sheet.specs.declared.held.Group.{Group}
 use Rattle.sheet.proofs.InMemory.{held-count, held-levels}
 use Rattle.work.specs.Work.{rankOf}
 use Rattle.work.specs.declared.answers.Outcome.{Outcome}
-use Rattle.layout.specs.Laying.{Puts, OutcomeHeld}
+use Rattle.sheet.specs.Putting.{Puts}
+use Rattle.layout.specs.Laying.{OutcomeHeld}
 use Rattle.layout.specs.Text.{newline, line, field, fields, commandLine, commandLines, groupLine, groupLines}
-use Rattle.layout.proofs.Putting.{Grows, grows, puts-then}
+use Rattle.sheet.proofs.Putting.{Grows, grows, puts-then}
 
 pub fields-grow : Grows fields (λ i. field)
 fields-grow = grows (λ p. field) (λ p. fields) (λ p. refl) (λ p x xs. refl) 0

@@ -2,7 +2,7 @@
 use mathlib.Core.Path.{_≡_, refl, ap, sym, _∙_}
 use mathlib.Core.Bool.{true, false, cond, _&&_, and-eq-true-iff}
 use mathlib.Core.List.{List, [], _∷_, _++_}
-use Prim.Native.Nat.{ℕ, zero, suc, _-_, _≤_, _<_}
+use Prim.Native.Nat.{ℕ, zero, suc, _-_, _≤_}
 use native.Mathlib.Omega.{arith}
 use borrow.Author.Tests.{eqb-true, eq-eqb}
 use lib.Dec.{eqb}
@@ -40,7 +40,7 @@ permutation-once : (n : ℕ) (xs : List ℕ) → IsPermutation n xs → onceEach
 permutation-once n xs o = count-once n xs (o .once)
 
 -- ---- nothing but zeros
-zeros-all : (n : ℕ) → allZero (replicate n 0) ≡ true
+pub zeros-all : (n : ℕ) → allZero (replicate n 0) ≡ true
 unfolding allZero
 zeros-all zero = refl
 zeros-all (suc n) = zeros-all n
@@ -53,6 +53,20 @@ all-zeros (x ∷ xs) h =
     let first : x ≡ 0 = eqb-true x 0 (b .0) in
     let rest : xs ≡ replicate (length xs) 0 = all-zeros xs (b .1) in
     cc
+
+abbrev made : ℕ → List ℕ → Permutation
+made k l = record { n = k; cells = l }
+
+-- a record whose places past n hold 0 is that of its names
+pub record-back : (p : Permutation) → p .n ≤ 20 → length (p .cells) ≡ 20 → allZero (drop (p .n) (p .cells)) ≡ true → p ≡ recordOf (listOf p)
+record-back p few long none =
+    let n : ℕ = p .n in
+    let rest : List ℕ = drop n (p .cells) in
+    let names : length (listOf p) ≡ n = length-take-le n (p .cells) (omega arith) in
+    let left : length rest ≡ 20 - length (listOf p) = omega (arith, length-drop n (p .cells)) in
+    let cells : p .cells ≡ row (listOf p) =
+    sym (take-append-drop n (p .cells)) ∙ ap (λ (l : List ℕ). listOf p ++ l) (all-zeros rest none ∙ rw left) in
+    ap (λ (k : ℕ). made k (p .cells)) (sym names) ∙ ap (made (length (listOf p))) cells
 
 -- ---- why a record is refused, by the tests that tell
 module _ (p : Permutation) where
@@ -77,9 +91,6 @@ pub record Sound (p : Permutation) : Type 0 where
   pub permutation : IsPermutation (p .n) (listOf p)
   pub is : p ≡ recordOf (listOf p)
 
-abbrev made : ℕ → List ℕ → Permutation
-made k l = record { n = k; cells = l }
-
 pub sound : (p : Permutation) → length (p .cells) ≡ 20 → recordNumber p ≡ 0 → Sound p
 unfolding recordNumber
 sound p long h =
@@ -90,15 +101,12 @@ sound p long h =
     let g = and-eq-true-iff (onceEach n (listOf p)) (allZero rest) .0 (tested (onceEach n (listOf p) && allZero rest) (λ z. omega arith) (f .1)) in
     let high : n ≤ 20 = s .1 in
     let names : length (listOf p) ≡ n = length-take-le n (p .cells) (omega arith) in
-    let left : length rest ≡ 20 - length (listOf p) = omega (arith, length-drop n (p .cells)) in
-    let cells : p .cells ≡ row (listOf p) =
-    sym (take-append-drop n (p .cells)) ∙ ap (λ (l : List ℕ). listOf p ++ l) (all-zeros rest (g .1) ∙ rw left) in
     record {
       few = s .0;
       many = high;
       fault = h;
       permutation = once-permutation n (listOf p) names (g .0);
-      is = ap (λ (k : ℕ). made k (p .cells)) (sym names) ∙ ap (made (length (listOf p))) cells;
+      is = record-back p high long (g .1);
     }
 
 -- the record of a permutation is not refused

@@ -1,4 +1,4 @@
-// Document 01, "Why a job is sent back": the eight words and their numbers, and the test of a size. A job that is done has number 0.
+// Document 01, "Why a job is sent back": the words and their numbers, with those that document 02 adds, and the test of a size. A job that is done has number 0.
 ghost use mathlib.Core.Path.{_≡_};
 ghost use Rattle.theory.specs.Refusal.{sizeWithin};
 
@@ -18,6 +18,8 @@ pub const CEILING: u8 = 6;
 pub const IDLE: u8 = 7;
 // an ill-formed bench sheet
 pub const SHEET: u8 = 8;
+// a lent list that is shorter than the bench sheet
+pub const PAPER: u8 = 9;
 
 // n where a group has so many cells, and 0 where it is SIZE. For other crates too. It gives n, so that the compiler knows the range of what it gave.
 pub fn size_within(n: usize) -> usize

@@ -24,7 +24,8 @@ fn without_spots(number: u8) -> Checked
     Checked { number, spots }
 }
 
-fn all_zero(cells: &[u8; 20], n: usize) -> bool
+// For other crates too: it asks for the row's twenty places.
+pub fn all_zero(cells: &[u8; 20], n: usize) -> bool
     requires { ⌜ (n ≤ 20) × (length (now cells) ≡ 20) ⌝ }
     ensures { λ r. ⌜ r ≡ allZero (drop n (now (cells .entry))) ⌝ }
 {

@@ -34,7 +34,9 @@ pub const SYMBOLS: u8 = 16;
 
 pub const PREFIX: u8 = 17;
 
-pub const NO_JOB: u8 = 18;
+pub const WRITE: u8 = 18;
+
+pub const NO_JOB: u8 = 19;
 
 fn job_of_p(second: u8, fifth: u8) -> u8 {
     if second == b'r' {
@@ -74,7 +76,11 @@ fn job_of_s(second: u8) -> u8 {
     }
 }
 
-// The first letter of the word tells the job, but for those on p, r and s.
+fn job_of_w(second: u8) -> u8 {
+    if second == b'r' { WRITE } else { WALK }
+}
+
+// The first letter of the word tells the job, but for those on p, r, s and w.
 pub fn job_of(line: &[u8]) -> u8 {
     if line.len() < 5 {
         return NO_JOB;
@@ -82,11 +88,11 @@ pub fn job_of(line: &[u8]) -> u8 {
     match line[0] {
         b'd' => DIGITS,
         b'u' => UNRANK,
-        b'w' => WALK,
         b'c' => COUNT_UP,
         b'p' => job_of_p(line[1], line[4]),
         b'r' => job_of_r(line[1], line[2], line[4]),
         b's' => job_of_s(line[1]),
+        b'w' => job_of_w(line[1]),
         _ => NO_JOB,
     }
 }

@@ -13,6 +13,7 @@ use super::job_names::SUCCESSOR;
 use super::job_names::SYMBOLS;
 use super::job_names::UNRANK;
 use super::job_names::WALK;
+use super::job_names::WRITE;
 use super::job_names::job_of;
 use super::jobs::digited;
 use super::jobs::placed;
@@ -32,6 +33,7 @@ use super::text::put;
 use super::text::words;
 use super::text::write;
 use super::walk::walk;
+use super::writing_job::on_write;
 use permutation::answers::Permutation;
 use permutation::push::push;
 use ranking::unrank::unrank;
@@ -78,6 +80,7 @@ fn reply(text: &mut Text, at: usize, job: u8, numbers: &Numbers, count: usize) -
         REWRITE => on_rewrite(text, at, numbers),
         SYMBOLS => on_symbols(text, at, numbers[0], numbers, count),
         PREFIX => on_prefix(text, at, numbers),
+        WRITE => on_write(text, at, numbers),
         _ => on_levels(text, at, job, numbers, count),
     }
 }

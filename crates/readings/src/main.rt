@@ -1,5 +1,6 @@
 // The bench readings of document 01 and the examples of documents 02 and 001, executed. Each line of standard input names a job and its input; the
 // program writes the line and what the job gives. It reads 65,536 bytes at most. The file `stdout` holds what the documents say, and `expected.py` how it was found.
+mod held_sheet; // a held sheet from the numbers of a line
 mod job_names; // which job a line names
 mod jobs; // the jobs on permutations
 mod level_jobs; // the jobs on levels alone
@@ -8,6 +9,7 @@ mod numbers; // the numbers of a line
 mod rewriting_jobs; // rewriting, all symbols of a code, the prefix of one
 mod text; // text in a lent buffer
 mod walk; // a long walk along the cycle
+mod writing_job; // a held sheet written
 
 ghost use Prim.Native.Nat.{_≤_, _<_};
 ghost use lib.ListN.{length};

@@ -60,11 +60,27 @@ pub fn read_numbers(line: &[u8], numbers: &mut Numbers) -> usize {
     count
 }
 
-fn narrow8(x: u64) -> u8 {
+// 0 past the numbers.
+pub fn number_at(numbers: &Numbers, at: usize) -> u64 {
+    if at < 64 { numbers[at] } else { 0 }
+}
+
+// The index k numbers on. All past the numbers are alike, so that it need not grow.
+pub fn past(at: usize, k: usize) -> usize {
+    if 64 <= at {
+        return 64;
+    }
+    if 64 <= k {
+        return 64;
+    }
+    at + k
+}
+
+pub fn narrow8(x: u64) -> u8 {
     if x < 256 { x as u8 } else { 255 }
 }
 
-fn narrow16(x: u64) -> u16 {
+pub fn narrow16(x: u64) -> u16 {
     if x < 65536 { x as u16 } else { 65535 }
 }
 

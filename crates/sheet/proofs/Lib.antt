@@ -1,5 +1,6 @@
 -- The proofs of the claims, and the laws that the proofs of the functions share.
 pub mod Inversion
+pub mod ByKind
 pub mod Valid
 pub mod InMemory
 pub mod Longest
@@ -8,3 +9,6 @@ pub mod Spelled
 pub mod ByteNumbers
 pub mod FaultNumbers
 pub mod ByTests
+pub mod Putting
+pub mod Every
+pub mod Typed

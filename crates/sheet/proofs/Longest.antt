@@ -1,6 +1,6 @@
 -- How far a reader reads at most, and that only the bytes so far count: the longest sheet, and that its bytes and one more decide. Assumes nothing.
 use mathlib.Core.Path.{_≡_, refl, ap}
-use mathlib.Core.Bool.{Bool, true, false, cond, not, _&&_, and-eq-true-iff}
+use mathlib.Core.Bool.{Bool, true, false, not, _&&_, and-eq-true-iff}
 use mathlib.Core.List.{List, [], _∷_, map}
 use Prim.Native.Nat.{ℕ, zero, suc, _+_, _*_, _≤_, _<_}
 use native.Mathlib.Omega.{arith}
@@ -16,6 +16,7 @@ use Rattle.sheet.specs.Sheet.{group, countAt, rewriteAt, storeAt, bodyAt
 use Rattle.sheet.specs.Claims.{longestSheet}
 use Rattle.sheet.specs.Parts.{Small}
 use Rattle.sheet.proofs.Inversion.{never, after-got, check-got}
+use Rattle.sheet.proofs.ByKind.{by-kind}
 use Rattle.sheet.proofs.Valid.{groups-readable, valid, small}
 
 -- what reads at a place of a list
@@ -89,10 +90,6 @@ unfolding check
 local-check true f l = l refl
 local-check false f l = wider (omega arith) (local-fault f)
 
-local-cond : {A : Type 0} {p q : Reader A} {w : ℕ} (b : Bool) → Local p w → Local q w → Local (λ s at. cond b (p s at) (q s at)) w
-local-cond true l r = l
-local-cond false l r = r
-
 local-many : {A : Type 0} {p : Reader A} {w : ℕ} (n : ℕ) → Local p w → Local (λ s at. many n (p s) at) (n * w)
 unfolding many
 local-many zero l = wider (omega arith) (local-got [])
@@ -114,16 +111,15 @@ local-group =
 -- ---- a command: 2 bytes and at most 20, where no group has more than twenty cells
 
 local-body : (kind g n : ℕ) → n ≤ 20 → Local (bodyAt kind g n) 20
-unfolding bodyAt countAt rewriteAt storeAt
+unfolding countAt rewriteAt storeAt
 local-body kind g n h =
-    local-cond (eqb kind 1)
+    by-kind (λ kind body. Local body 20) g n
     (wider {w = 4 + 0} (omega arith) (local-after (local-number 4) (λ s at k next e. local-got _)))
-    (local-cond (eqb kind 2)
     (wider {w = n * 1 + 0} (omega arith) (local-after (local-many n (local-number 1)) (λ s at names next e. local-got _)))
-    (local-cond (eqb kind 3)
     (wider {w = 8 + (8 + 0)} (omega arith)
     (local-after (local-number 8) (λ s at m next e. local-after (local-number 8) (λ s at m next e. local-got _))))
-    (wider (omega arith) (local-fault ill-formed))))
+    (λ kind. wider (omega arith) (local-fault ill-formed))
+    kind
 
 local-command : (sizes : List ℕ) → Small sizes → Local (command sizes) 22
 unfolding command

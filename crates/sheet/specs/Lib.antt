@@ -5,3 +5,5 @@ pub mod Held
 pub mod Claims
 pub mod Parts
 pub mod Standing
+pub mod Putting
+pub mod Typed

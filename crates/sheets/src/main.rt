@@ -1,4 +1,6 @@
-// Sheets from data/, as the arguments name them, and the text of each after its name. A file that cannot be opened ends the run; one that cannot be read shows as an early end.
+// Sheets from data/, as the arguments name them: the name, its text, and for a sheet without fault the line w. A file that cannot be opened ends the run; one that
+// cannot be read shows as an early end.
+mod again; // a sheet without fault written again
 
 // Prints the sheet that argument i names. There is none past the last argument.
 fn print_sheet(i: usize) -> bool {
@@ -20,7 +22,9 @@ fn print_sheet(i: usize) -> bool {
     io::write_all(libc::STDOUT_FILENO, b"\n");
     let printed = text::bench::bench(&sheet[..n], &mut text);
     let length = printed.length;
-    io::write_all(libc::STDOUT_FILENO, &text[..length])
+    let done = io::write_all(libc::STDOUT_FILENO, &text[..length]);
+    again::print_again(&sheet[..n]);
+    done
 }
 
 // At most 999 arguments are asked for, so that it ends.

@@ -7,7 +7,7 @@ ghost use Rattle.sheet.specs.Sheet.{sheet as contents};
 ghost use Rattle.layout.specs.Text.{textOf};
 ghost use Rattle.text.specs.Answers.{printAnswer, printedOn};
 ghost use Rattle.text.specs.Claims.{textBound};
-ghost use Rattle.layout.specs.Laying.{Puts};
+ghost use Rattle.sheet.specs.Putting.{Puts};
 use super::answers::Printed;
 use super::buffers::text_buffer;
 use layout::lines::put_commands;

@@ -13,4 +13,5 @@ reasons = record {
   ceiling = refl;
   idle = refl;
   sheet = refl;
+  paper = refl;
 }

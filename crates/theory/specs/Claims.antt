@@ -29,6 +29,8 @@ pub record Reasons : Type 0 where
   pub ceiling : reason.ceiling ≡ 6
   pub idle : reason.idle ≡ 7
   pub sheet : reason.sheet ≡ 8
+  -- document 02, request 2: "New numbers: 9 paper"
+  pub paper : reason.paper ≡ 9
 
 -- factorials and falling factorials
 pub record Factorials : Type 0 where

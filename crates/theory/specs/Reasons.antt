@@ -39,6 +39,10 @@ idle = 7
 abbrev pub sheet : ℕ
 sheet = 8
 
+-- document 02, request 2: "9 paper, when the lent list is shorter than the sheet"
+abbrev pub paper : ℕ
+paper = 9
+
 -- "A group has n cells, 2 to 20"; any other n is size
 abbrev pub sized : ℕ → Bool
 sized n = leb 2 n && leb n 20

@@ -13,10 +13,13 @@ ghost use Rattle.sheet.specs.Sheet.{sheet as contents};
 ghost use Rattle.layout.specs.Text.{textOf};
 ghost use Rattle.text.specs.Answers.{printAnswer, printedOn};
 ghost use Rattle.text.specs.Claims.{textBound};
+ghost use Rattle.writer.specs.RoundTrips.{RoundTrips};
+ghost use Rattle.listing.specs.Lists.{lists, heldIn, listsAnswer, listsOn};
 use charge::answers::Pushes;
 use charge::count_up::count_up;
 use charge::push_level::push_level;
 use charge::read::read;
+use listing::write_lists::write_lists;
 use permutation::answers::Permutation;
 use permutation::answers::Permuted;
 use permutation::answers::Placed;
@@ -33,6 +36,7 @@ use symbols::read_symbol::read_symbol;
 use symbols::store::store;
 use text::answers::Printed;
 use text::bench::bench;
+use writer::answers::Written;
 
 #[no_mangle]
 pub extern "C" fn tm_push(permutation: Permutation, place: usize) -> Permuted
@@ -125,4 +129,21 @@ pub extern "C" fn tm_bench(sheet: &[u8], text: &mut [u8]) -> Printed
     ensures fits { λ r. ⌜ (textBound ≤ length (now (text .entry)) → r .number ≡ 0) ⌝ }
 {
     bench(sheet, text)
+}
+
+#[no_mangle]
+pub extern "C" fn tm_write_sheet(
+    sizes: &[usize],
+    levels: &[u16],
+    kinds: &[u8],
+    groups: &[u8],
+    numbers: &[u64],
+    names: &[u8],
+    out: &mut [u8],
+) -> Written
+    ensures answer { λ r. ⌜ r ≡ listsAnswer (lists (now (sizes .entry)) (now (levels .entry)) (now (kinds .entry)) (now (groups .entry)) (now (numbers .entry)) (now (names .entry))) (length (now (out .entry))) ⌝ }
+    ensures out_left { λ _. ⌜ now (out .exit) ≡ listsOn (lists (now (sizes .entry)) (now (levels .entry)) (now (kinds .entry)) (now (groups .entry)) (now (numbers .entry)) (now (names .entry))) (now (out .entry)) ⌝ }
+    ensures round_trips { λ r. ⌜ (r .number ≡ 0 → RoundTrips (heldIn (lists (now (sizes .entry)) (now (levels .entry)) (now (kinds .entry)) (now (groups .entry)) (now (numbers .entry)) (now (names .entry)))) (now (out .entry)) r (now (out .exit))) ⌝ }
+{
+    write_lists(sizes, levels, kinds, groups, numbers, names, out)
 }

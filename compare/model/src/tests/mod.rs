@@ -1,9 +1,10 @@
-//! The model, held to the definitions and claims of document 01.
+//! The model, held to the definitions and claims of documents 01 and 02.
 
 mod definitions;
 mod readings;
 mod refusals;
 mod sheets;
+mod writing;
 
 use crate::Permutation;
 

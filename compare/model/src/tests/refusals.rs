@@ -4,11 +4,11 @@ use super::permutation;
 use crate::Reason::{self, Ceiling, Fit, Idle, Muddle, Size, Tie, Value};
 use crate::{count_up, digits, push, push_level, rank, read, read_symbol, rewrite, store, successor, unrank, Permutation};
 
-const DOCUMENT: [(Reason, u8); 8] = [(Size, 1), (Fit, 2), (Muddle, 3), (Tie, 4), (Value, 5), (Ceiling, 6), (Idle, 7), (Reason::Sheet, 8)];
+const DOCUMENTS: [(Reason, u8); 9] = [(Size, 1), (Fit, 2), (Muddle, 3), (Tie, 4), (Value, 5), (Ceiling, 6), (Idle, 7), (Reason::Sheet, 8), (Reason::Paper, 9)];
 
 #[test]
 fn numbers() {
-    assert!(DOCUMENT.iter().all(|&(reason, number)| reason as u8 == number));
+    assert!(DOCUMENTS.iter().all(|&(reason, number)| reason as u8 == number));
 }
 
 /// A record with n and cells as given, zeros past.

@@ -2,7 +2,7 @@
 
 use crate::bench;
 
-const EXAMPLE: [u8; 39] = [1, 3, 3, 0, 1, 0, 2, 0, 3, 0, 1, 0, 4, 0, 0, 0, 2, 0, 3, 1, 2, 3, 0, 3, 0, 0, 0, 0, 0, 0, 0, 3, 0, 0, 0, 0, 0, 0, 0];
+pub(super) const EXAMPLE: [u8; 39] = [1, 3, 3, 0, 1, 0, 2, 0, 3, 0, 1, 0, 4, 0, 0, 0, 2, 0, 3, 1, 2, 3, 0, 3, 0, 0, 0, 0, 0, 0, 0, 3, 0, 0, 0, 0, 0, 0, 0];
 
 fn text(sheet: &[u8]) -> String {
     String::from_utf8(bench(sheet)).unwrap()
@@ -62,7 +62,7 @@ fn refused_commands() {
 }
 
 /// A whole sheet of groups with 20 cells and commands which rewrite them by turns.
-fn whole_sheet(groups: u8, commands: u16) -> Vec<u8> {
+pub(super) fn whole_sheet(groups: u8, commands: u16) -> Vec<u8> {
     let mut sheet = vec![groups];
     for group in 0..groups {
         sheet.push(20);

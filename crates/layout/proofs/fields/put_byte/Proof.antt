@@ -1,6 +1,6 @@
 -- `layout::fields::put_byte` meets its contract. Assumes nothing.
 use borrow.Author.Needs.{needs}
-use Rattle.layout.proofs.Putting.{puts-byte}
+use Rattle.sheet.proofs.Putting.{puts-byte}
 use Rattle.layout.proofs.fields.put_byte.Statement.{statement}
 use Rattle.layout.proofs.fields.put_byte.Tie as tie
 

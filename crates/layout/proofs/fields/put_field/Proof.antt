@@ -5,7 +5,7 @@ use lib.ListN.{length, take}
 use borrow.Author.Needs.{needs}
 use Rattle.layout.specs.Text.{decimal}
 use Rattle.layout.proofs.Decimal.{put-decimal}
-use Rattle.layout.proofs.Putting.{puts-then, puts-copied}
+use Rattle.sheet.proofs.Putting.{puts-then, puts-copied}
 use Rattle.layout.proofs.fields.put_field.Statement.{statement}
 use Rattle.layout.proofs.fields.put_field.Tie as tie
 

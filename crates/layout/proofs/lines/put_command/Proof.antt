@@ -6,7 +6,7 @@ use lib.ListN.{length}
 use borrow.Author.Needs.{needs}
 use Rattle.layout.specs.Text.{field, commandLine}
 use Rattle.layout.proofs.Decimal.{field-short}
-use Rattle.layout.proofs.Putting.{puts-then, puts-nothing}
+use Rattle.sheet.proofs.Putting.{puts-then, puts-nothing}
 use Rattle.layout.proofs.Pieces.{puts-line}
 use Rattle.layout.proofs.lines.put_command.Statement.{statement}
 use Rattle.layout.proofs.lines.put_command.Tie as tie

@@ -4,7 +4,7 @@ use Prim.Native.Nat.{_-_, _≤_}
 use native.Mathlib.Omega.{arith}
 use borrow.Author.Needs.{needs}
 use Rattle.layout.specs.Text.{commandLines}
-use Rattle.layout.proofs.Putting.{Row, row-start, row-next}
+use Rattle.sheet.proofs.Putting.{Row, row-start, row-next}
 use Rattle.layout.proofs.Pieces.{commands-grow}
 use Rattle.layout.proofs.lines.put_commands.Statement.{statement}
 use Rattle.layout.proofs.lines.put_commands.Tie as tie

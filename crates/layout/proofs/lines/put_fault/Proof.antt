@@ -6,7 +6,7 @@ use lib.ListN.{length}
 use borrow.Author.Needs.{needs}
 use Rattle.layout.specs.Text.{field, faultLine}
 use Rattle.layout.proofs.Decimal.{field-short}
-use Rattle.layout.proofs.Putting.{puts-then, puts-nothing}
+use Rattle.sheet.proofs.Putting.{puts-then, puts-nothing}
 use Rattle.layout.proofs.Pieces.{puts-line}
 use Rattle.layout.proofs.lines.put_fault.Statement.{statement}
 use Rattle.layout.proofs.lines.put_fault.Tie as tie

@@ -8,7 +8,7 @@ use borrow.Author.Needs.{needs}
 use Rattle.sheet.specs.Held.{levelsOf}
 use Rattle.layout.specs.Text.{field, groupLine}
 use Rattle.layout.proofs.Decimal.{field-short}
-use Rattle.layout.proofs.Putting.{puts-then}
+use Rattle.sheet.proofs.Putting.{puts-then}
 use Rattle.layout.proofs.Pieces.{puts-line}
 use Rattle.work.proofs.Working.{group-size, group-few}
 use Rattle.layout.proofs.lines.put_group.Statement.{statement}

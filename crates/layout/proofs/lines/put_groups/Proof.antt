@@ -8,7 +8,7 @@ use borrow.Author.Needs.{needs}
 use Rattle.sheet.specs.Held.{groupsIn}
 use Rattle.sheet.proofs.InMemory.{held-count, held-levels}
 use Rattle.layout.specs.Text.{groupLines}
-use Rattle.layout.proofs.Putting.{Row, row-start, row-next, row-end}
+use Rattle.sheet.proofs.Putting.{Row, row-start, row-next, row-end}
 use Rattle.layout.proofs.Pieces.{groups-grow}
 use Rattle.work.proofs.Working.{group-at-held}
 use Rattle.layout.proofs.Pieces.{rank-at}

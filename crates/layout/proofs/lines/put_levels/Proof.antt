@@ -4,7 +4,7 @@ use native.Mathlib.Omega.{arith}
 use lib.ListN.{length, getD}
 use borrow.Author.Needs.{needs}
 use Rattle.layout.specs.Text.{field, fields}
-use Rattle.layout.proofs.Putting.{Row, row-start, row-next, row-end}
+use Rattle.sheet.proofs.Putting.{Row, row-start, row-next, row-end}
 use Rattle.layout.proofs.Pieces.{fields-grow}
 use Rattle.layout.proofs.Decimal.{field-short}
 use Rattle.layout.proofs.lines.put_levels.Statement.{statement}

@@ -2,7 +2,8 @@
 use mathlib.Core.Path.{refl, sym}
 use native.Mathlib.Omega.{arith}
 use borrow.Author.Needs.{needs}
-use Rattle.text.proofs.Printing.{laid-taken, too-short, long-enough, counted}
+use Rattle.sheet.proofs.Putting.{laid-taken}
+use Rattle.text.proofs.Printing.{too-short, long-enough, counted}
 use Rattle.text.proofs.bench.bench.Statement.{statement}
 use Rattle.text.proofs.bench.bench.Tie as tie
 

@@ -1,7 +1,7 @@
 -- `text::bench::lay` meets its contract: the line of the fault, or those of commands and groups. Assumes nothing.
 use native.Mathlib.Omega.{arith}
 use borrow.Author.Needs.{needs}
-use Rattle.layout.proofs.Putting.{puts-then}
+use Rattle.sheet.proofs.Putting.{puts-then}
 use Rattle.text.proofs.Printable.{Printable, printable, fault-text}
 use Rattle.text.proofs.bench.lay.Statement.{statement}
 use Rattle.text.proofs.bench.lay.Tie as tie

@@ -1,13 +1,13 @@
--- Text put piece by piece: nothing, one byte, a piece after another, and the next of a row of pieces. Assumes nothing.
+-- Bytes put piece by piece: nothing, one byte, a piece after another, and the next of a row of pieces. Assumes nothing.
 use mathlib.Core.Path.{_≡_, refl, sym, ap, _∙_}
 use mathlib.Core.List.{List, [], _∷_, _++_, append-nil, append-assoc}
 use Prim.Native.Nat.{ℕ, suc, _+_, _-_, _*_, _≤_, _<_}
 use native.Mathlib.Numerals.{add-one}
 use native.Mathlib.Omega.{arith}
-use lib.ListN.{length, getD, take, set, length-append, length-set}
-use lib.Seq.{length-take-le, take-length, take-all, take-suc, take-suc-set, take-append-seam, take-append-add}
+use lib.ListN.{length, getD, take, drop, set, length-append, length-set}
+use lib.Seq.{length-take-le, take-length, take-all, take-suc, take-suc-set, take-append-seam, take-append-add, take-take}
 use borrow.Rule.Slice.PartMut.{postOf, putMid}
-use Rattle.layout.specs.Laying.{Puts}
+use Rattle.sheet.specs.Putting.{onto, Puts}
 
 pub puts-nothing : (text : List ℕ) (at : ℕ) → Puts text at text at []
 puts-nothing text at = record { end-is = omega arith; long = refl; front = sym (append-nil _) }
@@ -35,6 +35,27 @@ puts-then {a} {b} {c} {at} {m} {r} {xs} {ys} p q = record {
   long = q .long ∙ p .long;
   front = q .front ∙ ap (λ (l : List ℕ). l ++ ys) (p .front) ∙ append-assoc (take at a) xs ys;
 }
+
+-- the first of two pieces alone
+pub puts-first : {a b : List ℕ} {at r : ℕ} (xs ys : List ℕ) → Puts a at b r (xs ++ ys) → at ≤ length a → Puts a at b (at + length xs) xs
+puts-first {a} {b} {at} {r} xs ys p h =
+    let start : length (take at a) ≡ at = length-take-le at a h in
+    let fewer : at + length xs ≤ r = omega (arith, p .end-is, length-append xs ys) in
+    let front : take (at + length xs) (take at a ++ (xs ++ ys)) ≡ take at a ++ xs =
+    rw start at (take-append-add (take at a) (xs ++ ys) (length xs)) ∙ rw (take-append-seam xs ys) in
+    record { end-is = refl; long = p .long; front = sym (take-take (at + length xs) r b fewer) ∙ ap (take (at + length xs)) (p .front) ∙ front }
+
+-- what was put from a page's start, and is then copied to the start of a buffer
+module _ {page laid : List ℕ} {end : ℕ} {xs : List ℕ} (p : Puts page 0 laid end xs) where
+  pub laid-length : end ≡ length xs
+  laid-length = omega (arith, p .end-is)
+
+  pub laid-taken : length (take end laid) ≡ end
+  laid-taken = ap length (p .front) ∙ sym laid-length
+
+  pub laid-onto : (buffer : List ℕ) {after : List ℕ} → after ≡ take (length (take end laid)) (take end laid) ++ drop (length (take end laid)) buffer
+      → after ≡ onto xs buffer
+  laid-onto buffer e = e ∙ rw (p .front, take-length xs)
 
 -- how a row's pieces make up its text: one more entry is one more piece, which may name the entry's index
 pub record Grows {A : Type 0} (text : List A → List ℕ) (piece : ℕ → A → List ℕ) : Type 0 where

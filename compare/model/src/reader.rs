@@ -1,0 +1,72 @@
+//! A bench sheet, from its bytes.
+
+use crate::levels::names_by_level;
+use crate::permutations::Permutation;
+use crate::reason::{check_size, refuse_if, Reason};
+use crate::sheet::{check_commands, check_groups, group_of, Command, Group, Job, Sheet};
+
+/// The bytes not yet read.
+struct Bytes<'a>(&'a [u8]);
+
+impl<'a> Bytes<'a> {
+    /// "An early end"
+    fn take(&mut self, count: usize) -> Result<&'a [u8], Reason> {
+        refuse_if(self.0.len() < count, Reason::Sheet)?;
+        let (taken, rest) = self.0.split_at(count);
+        self.0 = rest;
+        Ok(taken)
+    }
+
+    /// "Low byte first", at most eight bytes.
+    fn number(&mut self, width: usize) -> Result<u64, Reason> {
+        let bytes = self.take(width)?;
+        Ok(bytes.iter().rev().fold(0, |number, &byte| number << 8 | u64::from(byte)))
+    }
+}
+
+/// "The sheet is checked from its first byte, and the first fault met decides."
+pub fn read_sheet(bytes: &[u8]) -> Result<Sheet, Reason> {
+    let mut bytes = Bytes(bytes);
+    let groups = read_groups(&mut bytes)?;
+    let commands = read_commands(&mut bytes, &groups)?;
+    refuse_if(!bytes.0.is_empty(), Reason::Sheet)?;
+    Ok(Sheet { groups, commands })
+}
+
+/// "Sections in this sequence, each after its count": the groups.
+fn read_groups(bytes: &mut Bytes) -> Result<Vec<Group>, Reason> {
+    let count = bytes.number(1)? as usize;
+    check_groups(count)?;
+    (0..count).map(|_| read_group(bytes)).collect()
+}
+
+/// "Each has n in one byte, then n levels of two bytes." "Size is judged at the n byte and a tie after the group's last level."
+fn read_group(bytes: &mut Bytes) -> Result<Group, Reason> {
+    let n = bytes.number(1)? as usize;
+    check_size(n)?;
+    let levels: Vec<u16> = (0..n).map(|_| Ok(bytes.number(2)? as u16)).collect::<Result<_, Reason>>()?;
+    names_by_level(&levels)?;
+    Ok(Group::from_levels(&levels))
+}
+
+/// The commands, after their count.
+fn read_commands(bytes: &mut Bytes, groups: &[Group]) -> Result<Vec<Command>, Reason> {
+    let count = bytes.number(2)? as usize;
+    check_commands(count)?;
+    (0..count).map(|_| read_command(bytes, groups)).collect()
+}
+
+/// "The kind byte comes first, then the group byte (0 to G - 1). Kind 1 is count up, with k in four bytes.
+/// Kind 2 is rewrite, with n names. Kind 3 is store, with m and s in eight bytes each."
+fn read_command(bytes: &mut Bytes, groups: &[Group]) -> Result<Command, Reason> {
+    let kind = bytes.number(1)?;
+    refuse_if(!(1..=3).contains(&kind), Reason::Sheet)?;
+    let group = bytes.number(1)? as u8;
+    let n = group_of(groups, group)?.n;
+    let job = match kind {
+        1 => Job::CountUp { k: bytes.number(4)? as u32 },
+        2 => Job::Rewrite { target: Permutation::from_names(bytes.take(n)?) },
+        _ => Job::Store { m: bytes.number(8)?, symbol: bytes.number(8)? },
+    };
+    Ok(Command { group, job })
+}

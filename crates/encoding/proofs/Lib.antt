@@ -1,0 +1,14 @@
+-- The proofs of the claims, and the laws that the proofs of the functions share.
+pub mod Numbers
+pub mod Judged
+pub mod Accepted
+pub mod Verdicts
+pub mod ReadAgain
+pub mod WrittenAgain
+pub mod Same
+pub mod Claims
+pub mod ByTests
+pub mod Pieces
+pub mod Spelling
+pub mod Lays
+pub mod PartsPut

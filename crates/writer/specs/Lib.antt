@@ -1,0 +1,3 @@
+-- The meanings that the contracts cite.
+pub mod Answers
+pub mod RoundTrips
