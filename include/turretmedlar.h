@@ -48,7 +48,7 @@ enum tm_reason {
     TM_VALUE = 5,   /* value: a rank, place, m or symbol is outside its range */
     TM_CEILING = 6, /* ceiling: the highest level plus the job's pushes exceeds 65,535 */
     TM_IDLE = 7,    /* idle: the levels' prefix is that of none of the m symbols */
-    TM_SHEET = 8,   /* sheet: a bench sheet is ill-formed, or what is held is in no sheet: a count, kind or group number is outside its range */
+    TM_SHEET = 8,   /* sheet: a bench sheet is ill-formed, or what is to be written is on none: a count, kind, group number or k is outside its range */
     TM_PAPER = 9    /* paper: a lent list is shorter than the sheet that is to be written */
 };
 
@@ -174,7 +174,7 @@ tm_symbol tm_read_symbol(const uint16_t *levels, size_t n, uint64_t m);
 tm_printed tm_bench(const uint8_t *sheet, size_t length, uint8_t *text, size_t room);
 
 /* Writes a bench sheet from groups and commands into the first bytes of `out`, which has `room` bytes. Gives the sheet's length: TM_SHEET_BYTES are always
- * enough. What is written is read by tm_bench as these groups and commands, and a sheet that is read and then written has equal bytes.
+ * enough. What is written is read by tm_bench as these groups and commands, and a sheet without fault that has these groups and commands has just these bytes.
  *
  * The groups and commands stand in six lists, one for each field, each followed by its length. Each group and each command has a row in a list, one after the
  * other:
@@ -195,8 +195,8 @@ tm_printed tm_bench(const uint8_t *sheet, size_t length, uint8_t *text, size_t r
  *   tm_written sheet = tm_write_sheet(sizes, 1, levels[0], TM_CELLS, kinds, 3, groups, 3, numbers[0], 6, names[0], 3 * TM_CELLS, out, sizeof out);
  *
  * Refused: 2 fit, a list is too short for the numbers of groups and of commands. Then the first met in the sheet's sequence: 8 sheet, there are not 1 to 64
- * groups; for each group, 1 size, n is not 2 to 20, and 4 tie, two of its levels are equal; 8 sheet, there are more than 1,000 commands; for each command,
- * 8 sheet, its kind is not 1 to 3, its k is above 4,294,967,295 or there is no such group, and for a rewrite, 2 fit, its n is not its group's, and 3 muddle, a name
+ * groups; for each group, 1 size, n is not 2 to 20, then 4 tie, two of its levels are equal; 8 sheet, there are more than 1,000 commands; for each command,
+ * 8 sheet, its kind is not 1 to 3, its k is above 4,294,967,295 or there is no such group, and for a rewrite, 2 fit, its n is not its group's, then 3 muddle, a name
  * past n is not 0. The names inside n are not judged: tm_bench does so. After all these 9 paper, the sheet has more than `room` bytes.
  * Unchanged: the six lists, always, and the bytes of `out` after the sheet; refused, all of `out`. */
 tm_written tm_write_sheet(const size_t *sizes, size_t sizes_length, const uint16_t *levels, size_t levels_length, const uint8_t *kinds, size_t kinds_length,

@@ -165,6 +165,8 @@ static void check_writing(void) {
     tm_written answer = write_held(paper, out, sizeof out);
     CHECK(answer.number == TM_DONE && answer.length == sizeof sheet && memcmp(out, sheet, sizeof sheet) == 0);
     CHECK(memcmp(out + sizeof sheet, blank, sizeof out - sizeof sheet) == 0);
+    memset(out, 'x', sizeof out);
+    CHECK(header_example(out).length == sizeof sheet && memcmp(out, sheet, sizeof sheet) == 0);
     CHECK(write_held(paper, out, sizeof sheet).number == TM_DONE && unwritten(paper, sizeof sheet - 1, TM_PAPER) && unwritten(paper, 0, TM_PAPER));
     held unsized = paper, tied = paper, kind = paper, group = paper, count = paper, unfit = paper, muddled = paper, unseen = paper;
     unsized.sizes[0] = 21;
@@ -180,6 +182,19 @@ static void check_writing(void) {
     unseen.numbers[1] = unseen.numbers[3] = 9;
     unseen.names[0] = unseen.names[2 * TM_CELLS] = 9;
     CHECK(write_held(unseen, out, sizeof out).length == sizeof sheet && memcmp(out, sheet, sizeof sheet) == 0);
+}
+
+/* The example of the header's comment, as it stands there. */
+static tm_written header_example(uint8_t *written) {
+    size_t sizes[1] = {3};
+    uint16_t levels[1][TM_CELLS] = {{3, 1, 2}};
+    uint8_t kinds[3] = {1, 2, 3}, groups[3] = {0, 0, 0};
+    uint64_t numbers[3][2] = {{4}, {3}, {3, 3}};
+    uint8_t names[3][TM_CELLS] = {{0}, {3, 1, 2}};
+    uint8_t out[TM_SHEET_BYTES];
+    tm_written sheet = tm_write_sheet(sizes, 1, levels[0], TM_CELLS, kinds, 3, groups, 3, numbers[0], 6, names[0], 3 * TM_CELLS, out, sizeof out);
+    memcpy(written, out, sheet.length);
+    return sheet;
 }
 
 /* "with length 0 the address is not used and may be NULL" */

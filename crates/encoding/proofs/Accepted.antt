@@ -8,16 +8,18 @@ use borrow.Author.Tests.{leb-true, ltb-true}
 use lib.Dec.{leb, ltb}
 use lib.ListN.{length, getD, take, length-map, List·getD-map}
 use lib.Seq.{length-take-le, getD-take}
+use Rattle.theory.specs.Lists.{Every}
 use Rattle.theory.specs.Reasons.{sized}
 use Rattle.theory.specs.Levels.{tied}
 use Rattle.theory.proofs.Refusal.{orElse-done}
 use Rattle.sheet.specs.Held.{noGroup, noEntry, levelsOf, groupsIn}
-use Rattle.sheet.specs.Typed.{Every, GroupTyped, SheetTyped}
+use Rattle.sheet.specs.Typed.{GroupTyped, SheetTyped}
 use Rattle.sheet.specs.declared.held.Group.{Group}
 use Rattle.sheet.specs.declared.held.Groups.{Groups}
 use Rattle.sheet.specs.declared.held.Entry.{Entry}
 use Rattle.sheet.specs.declared.held.Sheet.{Sheet}
-use Rattle.sheet.proofs.Every.{every-nth, every-at}
+use Rattle.sheet.proofs.Typed.{groups-there, entries-there}
+use Rattle.theory.proofs.Every.{every-nth, every-at}
 use Rattle.encoding.specs.Faults.{groupNumber, groupsNumber, actionNumber, entryNumber, commandsNumber, sheetNumber}
 use Rattle.encoding.specs.Claims.{CountsFit}
 use Rattle.encoding.proofs.Judged.{passed, unmet, first-none}
@@ -53,27 +55,29 @@ groups-taken gs z =
     }
 
 module _ (gs : Groups) (room : length (gs .list) ≡ 64) (t : GroupsTaken gs) where
-  groups-there : length (take (gs .count) (gs .list)) ≡ gs .count
-  groups-there = length-take-le (gs .count) (gs .list) (omega (arith, t .few))
-
   -- each group that is counted
   pub group-at : (g : ℕ) → g < gs .count → GroupTaken (getD (gs .list) g noGroup)
   group-at g h =
       group-taken _
-      (rw (getD-take (gs .count) (gs .list) g noGroup h) at (every-at (λ g. groupNumber g ≡ 0) noGroup _ (t .each) g (omega (arith, groups-there))))
+      (rw (getD-take (gs .count) (gs .list) g noGroup h) at (every-at (λ g. groupNumber g ≡ 0) noGroup (take (gs .count) (gs .list)) (t .each) g (omega (arith, groups-there gs room (t .few)))))
 
   pub sizes-long : length (map length (groupsIn gs)) ≡ gs .count
-  sizes-long = length-map (groupsIn gs) length ∙ length-map (take (gs .count) (gs .list)) levelsOf ∙ groups-there
+  sizes-long = length-map (groupsIn gs) length ∙ length-map (take (gs .count) (gs .list)) levelsOf ∙ groups-there gs room (t .few)
+
+  -- its levels, in what is said
+  pub levels-at : (g : ℕ) → g < gs .count → getD (groupsIn gs) g [] ≡ levelsOf (getD (gs .list) g noGroup)
+  levels-at g h =
+      List·getD-map levelsOf (take (gs .count) (gs .list)) g noGroup ∙ ap levelsOf (getD-take (gs .count) (gs .list) g noGroup h)
 
   module _ (typed : Every GroupTyped (gs .list)) where
-    -- a group's levels are as many as its n
-    pub size-at : (g : ℕ) → g < gs .count → getD (map length (groupsIn gs)) g 0 ≡ getD (gs .list) g noGroup .n
-    size-at g h =
-        let group = getD (gs .list) g noGroup in
-        let at : getD (groupsIn gs) g [] ≡ levelsOf group =
-        List·getD-map levelsOf (take (gs .count) (gs .list)) g noGroup ∙ ap levelsOf (getD-take (gs .count) (gs .list) g noGroup h) in
+    -- they are as many as its n
+    pub levels-long : (g : ℕ) → g < gs .count → length (levelsOf (getD (gs .list) g noGroup)) ≡ getD (gs .list) g noGroup .n
+    levels-long g h =
         let long = every-at GroupTyped noGroup (gs .list) typed g (omega (arith, t .few)) .long in
-        List·getD-map length (groupsIn gs) g [] ∙ ap length at ∙ length-take-le (group .n) (group .levels) (omega (arith, group-at g h .few))
+        length-take-le _ _ (omega (arith, group-at g h .few))
+
+    pub size-at : (g : ℕ) → g < gs .count → getD (map length (groupsIn gs)) g 0 ≡ getD (gs .list) g noGroup .n
+    size-at g h = List·getD-map length (groupsIn gs) g [] ∙ ap length (levels-at g h) ∙ levels-long g h
 
 -- ---- a command
 
@@ -110,8 +114,8 @@ module _ (h : Sheet) (typed : SheetTyped h) (a : Accepted h) where
       let t = a .groups in
       let small : (g : ℕ) → g < length (take (gs .count) (gs .list)) → getD (take (gs .count) (gs .list)) g noGroup .n < 2 ^ 8 =
       λ g l. (
-      let below : g < gs .count = omega (arith, groups-there gs (typed .room) t) in
-      rw (getD-take (gs .count) (gs .list) g noGroup below) (omega (arith, group-at gs (typed .room) t g below .few))) in
+      let below : g < gs .count = omega (arith, groups-there gs (typed .groups-long) (t .few)) in
+      rw (getD-take (gs .count) (gs .list) g noGroup below) (omega (arith, group-at gs (typed .groups-long) t g below .few))) in
       record {
         groups = omega (arith, t .few);
         sizes = every-nth (λ (g : Group). g .n < 2 ^ 8) noGroup (take (gs .count) (gs .list)) small;
@@ -121,6 +125,6 @@ module _ (h : Sheet) (typed : SheetTyped h) (a : Accepted h) where
   -- each command that is counted
   pub entry-at : (i : ℕ) → i < h .count → entryNumber (h .groups) (getD (h .entries) i noEntry) ≡ 0
   entry-at i more =
-      let there : length (take (h .count) (h .entries)) ≡ h .count = length-take-le (h .count) (h .entries) (omega (arith, typed .long, a .short)) in
+      let there = entries-there h typed (a .short) in
       rw (getD-take (h .count) (h .entries) i noEntry more)
       at (every-at (λ e. entryNumber (h .groups) e ≡ 0) noEntry (take (h .count) (h .entries)) (a .entries) i (omega arith))

@@ -3,8 +3,8 @@ use mathlib.Core.Path.{_≡_, refl}
 use mathlib.Core.Bool.{Bool, true, false, cond}
 use mathlib.Core.List.{List, [], _∷_}
 use Prim.Native.Nat.{ℕ}
+use Rattle.theory.specs.Lists.{Every}
 use Rattle.theory.proofs.Refusal.{orElse-done}
-use Rattle.sheet.specs.Typed.{Every}
 use Rattle.encoding.specs.Faults.{first}
 
 -- a test that is not refused, and what is judged after it
@@ -18,11 +18,11 @@ unmet true ne h = absurd (ne h)
 unmet false ne h = refl
 
 pub first-none : {A : Type 0} (number : A → ℕ) (xs : List A) → first number xs ≡ 0 → Every (λ x. number x ≡ 0) xs
-unfolding Every first
+unfolding first
 first-none number [] h = tt
 first-none number (x ∷ xs) h = let e = orElse-done (number x) (first number xs) h in (e .0, first-none number xs (e .1))
 
 pub none-first : {A : Type 0} (number : A → ℕ) (xs : List A) → Every (λ x. number x ≡ 0) xs → first number xs ≡ 0
-unfolding Every first
+unfolding first
 none-first number [] h = refl
 none-first number (x ∷ xs) h = rw (h .0) (none-first number xs (h .1))

@@ -12,7 +12,7 @@ use Rattle.sheet.specs.declared.held.Groups.{Groups}
 use Rattle.sheet.specs.declared.held.Entry.{Entry}
 use Rattle.encoding.specs.Faults.{actionNumber, entryNumber}
 use Rattle.sheet.specs.Putting.{Puts}
-use Rattle.encoding.specs.Laying.{Lays}
+use Rattle.encoding.specs.Lays.{Lays}
 use Rattle.encoding.specs.declared.laid.Laid.{Laid}
 use Rattle.sheet.proofs.Putting.{puts-then}
 use Rattle.encoding.proofs.ByTests.{entry-named}

@@ -6,6 +6,7 @@ pub mod Verdicts
 pub mod ReadAgain
 pub mod WrittenAgain
 pub mod Same
+pub mod Unsaid
 pub mod Claims
 pub mod ByTests
 pub mod Pieces

@@ -1,14 +1,13 @@
 -- Numbers as bytes: how many there are, and that they spell the number; and back. Assumes nothing.
 use mathlib.Core.Path.{_≡_, refl, ap}
-use mathlib.Core.List.{List, [], _∷_, _++_, append-assoc}
+use mathlib.Core.List.{List, [], _∷_, _++_, append-assoc, flatMap}
 use Prim.Native.Nat.{ℕ, zero, suc, _+_, _*_, _/_, _%_, _^_, _<_}
 use native.Mathlib.Nat.{pow-suc, pow-zero, mul-zero, mul-suc, div-add-mod, div-lt-iff-lt-mul}
 use native.Mathlib.Omega.{arith}
 use lib.Dec.{lit<}
 use lib.ListN.{length, length-append}
-use Rattle.sheet.specs.Bytes.{little}
-use Rattle.sheet.specs.Typed.{Every, Bits}
-use Rattle.encoding.specs.CommandKinds.{bytesOf, joined}
+use Rattle.sheet.specs.Bytes.{little, bytesOf}
+use Rattle.sheet.specs.Typed.{Bits}
 
 pub bytes-length : (k x : ℕ) → length (bytesOf k x) ≡ k
 unfolding bytesOf
@@ -16,16 +15,16 @@ bytes-length zero x = refl
 bytes-length (suc k) x = ap suc (bytes-length k (x / 256))
 
 -- numbers of k bytes each
-pub joined-length : (k : ℕ) (xs : List ℕ) → length (joined (bytesOf k) xs) ≡ k * length xs
-unfolding joined
-joined-length k [] = rw mul-zero
-joined-length k (x ∷ xs) = rw (length-append, bytes-length, joined-length k xs, mul-suc) (omega arith)
+pub flatMap-length : (k : ℕ) (xs : List ℕ) → length (flatMap (bytesOf k) xs) ≡ k * length xs
+unfolding flatMap
+flatMap-length k [] = rw mul-zero
+flatMap-length k (x ∷ xs) = rw (length-append, bytes-length, flatMap-length k xs, mul-suc) (omega arith)
 
 -- the entries of a list, and then those of another
-pub joined-append : {A : Type 0} (w : A → List ℕ) (xs ys : List A) → joined w (xs ++ ys) ≡ joined w xs ++ joined w ys
-unfolding joined
-joined-append w [] ys = refl
-joined-append w (x ∷ xs) ys = rw (joined-append w xs ys, append-assoc)
+pub flatMap-append : {A : Type 0} (w : A → List ℕ) (xs ys : List A) → flatMap w (xs ++ ys) ≡ flatMap w xs ++ flatMap w ys
+unfolding flatMap
+flatMap-append w [] ys = refl
+flatMap-append w (x ∷ xs) ys = rw (flatMap-append w xs ys, append-assoc)
 
 pub bytes-little : (k x : ℕ) → x < 256 ^ k → little (bytesOf k x) ≡ x
 unfolding bytesOf little
@@ -36,7 +35,7 @@ bytes-little (suc k) x h =
     rw rest (omega (arith, div-add-mod x 256))
 
 pub little-bytes : (xs : List ℕ) → Bits 8 xs → bytesOf (length xs) (little xs) ≡ xs
-unfolding Every bytesOf little
+unfolding bytesOf little
 little-bytes [] h = refl
 little-bytes (b ∷ xs) h =
     let small = h .0 in

@@ -1,21 +1,22 @@
 -- What is written, as pieces in a row, and the places after what was put. Assumes nothing.
 use mathlib.Core.Path.{_≡_, refl}
-use mathlib.Core.List.{List, [], _++_}
+use mathlib.Core.List.{List, [], _++_, flatMap}
 use Prim.Native.Nat.{ℕ, _+_, _*_, _≤_}
 use native.Mathlib.Omega.{arith}
 use lib.ListN.{length, length-append}
+use Rattle.sheet.specs.Bytes.{bytesOf}
 use Rattle.sheet.specs.Putting.{Puts}
 use Rattle.sheet.proofs.Putting.{Grows, grows}
 use Rattle.sheet.specs.declared.held.Action.the-variants.{Count, Store}
-use Rattle.encoding.specs.CommandKinds.{bytesOf, joined, kindOf, bodyBytes}
-use Rattle.encoding.specs.Written.{headBytes, actionBytes}
-use Rattle.encoding.proofs.Numbers.{bytes-length, joined-length}
+use Rattle.encoding.specs.CommandKinds.{kindOf, bodyBytes}
+use Rattle.encoding.specs.SheetBytes.{headBytes, actionBytes}
+use Rattle.encoding.proofs.Numbers.{bytes-length, flatMap-length}
 
-pub joined-grows : {A : Type 0} (w : A → List ℕ) → Grows (joined w) (λ i. w)
-unfolding joined
-joined-grows w = grows (λ p. w) (λ p. joined w) (λ p. refl) (λ p x xs. refl) 0
+pub flatMap-grows : {A : Type 0} (w : A → List ℕ) → Grows (flatMap w) (λ i. w)
+unfolding flatMap
+flatMap-grows w = grows (λ p. w) (λ p. flatMap w) (λ p. refl) (λ p x xs. refl) 0
 
-pub head-length : (kind g : ℕ) → length (headBytes kind g) ≡ 2
+head-length : (kind g : ℕ) → length (headBytes kind g) ≡ 2
 unfolding headBytes
 head-length kind g = omega (arith, length-append (bytesOf 1 kind) (bytesOf 1 g), bytes-length 1 kind, bytes-length 1 g)
 
@@ -23,8 +24,8 @@ module _ {a b : List ℕ} {at r : ℕ} where
   pub number-end : (k x : ℕ) → Puts a at b r (bytesOf k x) → r ≡ at + k
   number-end k x p = omega (arith, p .end-is, bytes-length k x)
 
-  pub numbers-end : (k : ℕ) (xs : List ℕ) → Puts a at b r (joined (bytesOf k) xs) → r ≡ at + k * length xs
-  numbers-end k xs p = omega (arith, p .end-is, joined-length k xs)
+  pub numbers-end : (k : ℕ) (xs : List ℕ) → Puts a at b r (flatMap (bytesOf k) xs) → r ≡ at + k * length xs
+  numbers-end k xs p = omega (arith, p .end-is, flatMap-length k xs)
 
   pub head-end : (kind g : ℕ) → Puts a at b r (headBytes kind g) → r ≡ at + 2
   head-end kind g p = omega (arith, p .end-is, head-length kind g)

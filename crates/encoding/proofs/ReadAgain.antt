@@ -1,32 +1,34 @@
 -- What the bytes of a held sheet are read as: what it says, or the fault that its number is of. Assumes nothing.
 use mathlib.Core.Path.{_≡_, refl, sym, ap, _∙_}
 use mathlib.Core.Bool.{cond, _&&_, and-eq-true-iff}
-use mathlib.Core.List.{List, [], _∷_, _++_, map, append-assoc, append-nil}
+use mathlib.Core.List.{List, [], _∷_, _++_, map, append-assoc, append-nil, flatMap}
 use Prim.Native.Nat.{ℕ, _+_, _^_, _≤_, _<_}
 use native.Mathlib.Omega.{arith}
 use borrow.Author.Tests.{leb-true, ltb-true, eq-eqb}
 use lib.Dec.{lit<, leb, ltb}
 use lib.ListN.{length, take, drop, getD, length-append}
 use lib.Seq.{length-take-le, drop-append-seam, take-at}
+use Rattle.theory.specs.Lists.{Every}
 use Rattle.theory.specs.Reasons.{sized}
 use Rattle.theory.specs.Levels as levels
 use Rattle.theory.proofs.Cases.{by-test, by-name}
 use Rattle.permutation.specs.Records.{listOf, allZero}
 use Rattle.permutation.specs.declared.answers.Permutation.{Permutation}
-use Rattle.sheet.specs.Bytes.{missized, tied, ill-formed, got, after, check, many, number}
+use Rattle.sheet.specs.Bytes.{missized, tied, ill-formed, got, after, check, many, number, bytesOf}
 use Rattle.sheet.specs.Sheet.{group, entry, countAt, rewriteAt, storeAt, bodyAt, command, commandRow, commands, sheet}
 use Rattle.sheet.specs.Held.{noGroup, levelsOf, groupsIn}
-use Rattle.sheet.specs.Typed.{Every, Bits, GroupTyped, ActionTyped, EntryTyped, SheetTyped}
+use Rattle.sheet.specs.Typed.{Bits, GroupTyped, ActionTyped, EntryTyped, SheetTyped}
 use Rattle.sheet.specs.declared.held.Action.{Action}
 use Rattle.sheet.specs.declared.held.Action.the-variants.{Count, Rewrite, Store}
 use Rattle.sheet.specs.declared.held.Group.{Group}
 use Rattle.sheet.specs.declared.held.Groups.{Groups}
 use Rattle.sheet.specs.declared.held.Entry.{Entry}
 use Rattle.sheet.specs.declared.held.Sheet.{Sheet}
+use Rattle.sheet.proofs.Typed.{groups-there, entries-there}
 use Rattle.sheet.proofs.ByteNumbers.{number-there}
-use Rattle.sheet.proofs.Every.{every-take, every-both}
-use Rattle.encoding.specs.CommandKinds.{bytesOf, joined, kindOf, targeted, bodyBytes}
-use Rattle.encoding.specs.Written.{groupBytes, headBytes, entryBytes, groupsBytes, commandsBytes, sheetBytes}
+use Rattle.theory.proofs.Every.{every-take, every-both}
+use Rattle.encoding.specs.CommandKinds.{kindOf, targeted, bodyBytes}
+use Rattle.encoding.specs.SheetBytes.{groupBytes, headBytes, entryBytes, groupsBytes, commandsBytes, sheetBytes}
 use Rattle.encoding.specs.Said.{entrySaid, said}
 use Rattle.encoding.specs.Faults.{groupNumber, groupsNumber, targetNumber, actionNumber, entryNumber, commandsNumber, sheetNumber}
 use Rattle.encoding.specs.Claims.{CountsFit}
@@ -44,13 +46,13 @@ number-reads k s pre post x e h =
     let part : take k (drop (length pre) s) ≡ bytesOf k x = rw (e, drop-append-seam) (take-at (bytesOf k x) post k (bytes-length k x)) in
     number-there s k (length pre) (omega arith) ∙ rw (part, bytes-little k x h, far)
 
-numbers-read : (k : ℕ) (xs : List ℕ) → Every (λ x. x < 256 ^ k) xs → (s pre post : List ℕ) → s ≡ pre ++ (joined (bytesOf k) xs ++ post)
-    → many (length xs) (number k s) (length pre) ≡ got xs (length (pre ++ joined (bytesOf k) xs))
-unfolding many after joined Every
+numbers-read : (k : ℕ) (xs : List ℕ) → Every (λ x. x < 256 ^ k) xs → (s pre post : List ℕ) → s ≡ pre ++ (flatMap (bytesOf k) xs ++ post)
+    → many (length xs) (number k s) (length pre) ≡ got xs (length (pre ++ flatMap (bytesOf k) xs))
+unfolding many after flatMap
 numbers-read k [] ok s pre post e = rw append-nil
 numbers-read k (x ∷ xs) ok s pre post e =
-    let here : s ≡ pre ++ (bytesOf k x ++ (joined (bytesOf k) xs ++ post)) = e ∙ simp append-assoc in
-    let one = number-reads k s pre (joined (bytesOf k) xs ++ post) x here (ok .0) in
+    let here : s ≡ pre ++ (bytesOf k x ++ (flatMap (bytesOf k) xs ++ post)) = e ∙ simp append-assoc in
+    let one = number-reads k s pre (flatMap (bytesOf k) xs ++ post) x here (ok .0) in
     let rest = numbers-read k xs (ok .1) s (pre ++ bytesOf k x) post (here ∙ simp append-assoc) in
     rw (one, rest, append-assoc)
 
@@ -62,10 +64,10 @@ group-judges s pre post g e ok =
     let n = g .n in
     let L = levelsOf g in
     let a = bytesOf 1 n in
-    let b = joined (bytesOf 2) L in
+    let b = flatMap (bytesOf 2) L in
     let here : s ≡ pre ++ (a ++ (b ++ post)) = e ∙ simp append-assoc in
     let size = number-reads 1 s pre (b ++ post) n here (ok .0) in
-    let row = numbers-read 2 L (every-take (λ l. l < 2 ^ 16) n (g .levels) (ok .1 .fit)) s (pre ++ a) post (here ∙ simp append-assoc) in
+    let row = numbers-read 2 L (every-take (λ l. l < 2 ^ 16) n (g .levels) (ok .1 .bits)) s (pre ++ a) post (here ∙ simp append-assoc) in
     rw size (verdict-check (sized n) missized (λ yes.
     let few = leb-true n 20 (and-eq-true-iff (leb 2 n) (leb n 20) .0 yes .1) in
     let long : length L ≡ n = length-take-le n (g .levels) (omega (arith, ok .1 .long, few)) in
@@ -93,8 +95,8 @@ body-judges g n few Rewrite t typed long fit s pre post e =
     let names = rw count at (numbers-read 1 (listOf t) (every-take (λ b. b < 2 ^ 8) (t .n) (t .cells) fit) s pre post e) in
     rw (q, names) (by-test (allZero (drop n (t .cells)))
     (λ z. rw z (verdict-got refl))
-    (λ z. rw z (record { good = λ z. absurd (omega arith); bad = λ f z. absurd (no-fault f .2 (sym z)) }))))
-    (λ other q. rw q (record { good = λ z. absurd (omega arith); bad = λ f z. absurd (no-fault f .1 (sym z)) }))
+    (λ z. rw z (record { good = λ z. absurd (omega arith); bad = λ f z. absurd (no-fault f .1 (sym z)) }))))
+    (λ other q. rw q (record { good = λ z. absurd (omega arith); bad = λ f z. absurd (no-fault f .0 (sym z)) }))
 body-judges g n few (Store m symbol) t typed long fit s pre post e =
     let a = bytesOf 8 m in
     let b = bytesOf 8 symbol in
@@ -122,7 +124,7 @@ module _ (gs : Groups) (room : length (gs .list) ≡ 64) (groups : Every GroupTy
       rw (kind, named, sizes-long gs room t) (verdict-check (ltb g (gs .count)) ill-formed (λ yes.
       let below = ltb-true g (gs .count) yes in
       rw (size-at gs room t groups g below, ← end)
-      (body-judges g (getD (gs .list) g noGroup .n) (group-at gs room t g below .few) action (e .target) (typed .action) (typed .long) (typed .fit)
+      (body-judges g (getD (gs .list) g noGroup .n) (group-at gs room t g below .few) action (e .target) (typed .action) (typed .long) (typed .bits)
       s ((pre ++ a) ++ b) post (here ∙ simp append-assoc))))
 
 -- ---- the sheet
@@ -138,24 +140,24 @@ module _ (h : Sheet) (typed : SheetTyped h) (fits : CountsFit h) where
   es = take (h .count) (h .entries)
 
   abbrev front : List ℕ
-  front = bytesOf 1 (gs .count) ++ joined groupBytes ls
+  front = bytesOf 1 (gs .count) ++ flatMap groupBytes ls
 
   abbrev back : List ℕ
-  back = bytesOf 2 (h .count) ++ joined entryBytes es
+  back = bytesOf 2 (h .count) ++ flatMap entryBytes es
 
   commands-judged : GroupsTaken gs → Verdict (commands (groupsIn gs) (front ++ back) (length front)) (commandsNumber h) (said h) (length (front ++ back))
   unfolding commands commandRow commandsNumber said after check
   commands-judged t =
       let s = front ++ back in
       let d = bytesOf 2 (h .count) in
-      let f = joined entryBytes es in
+      let f = flatMap entryBytes es in
       let count = number-reads 2 s front f (h .count) refl (fits .commands) in
       let end : (front ++ d) ++ f ≡ s = append-assoc front d f in
       rw count (verdict-check (leb (h .count) 1000) ill-formed (λ yes.
-      let long : length es ≡ h .count = length-take-le (h .count) (h .entries) (omega (arith, typed .long, leb-true (h .count) 1000 yes)) in
+      let long = entries-there h typed (leb-true (h .count) 1000 yes) in
       let read =
       rw (long, end) at (many-judges (command (map length (groupsIn gs))) entryBytes (entryNumber gs) entrySaid EntryTyped
-      (entry-judges gs (typed .room) (typed .groups) t) es (every-take EntryTyped (h .count) (h .entries) (typed .entries))
+      (entry-judges gs (typed .groups-long) (typed .groups) t) es (every-take EntryTyped (h .count) (h .entries) (typed .entries))
       s (front ++ d) [] (sym end ∙ ap (λ (l : List ℕ). (front ++ d) ++ l) (sym (append-nil f)))) in
       verdict-then read _ (rw (eq-eqb (length s) (length s) refl))))
 
@@ -164,12 +166,12 @@ module _ (h : Sheet) (typed : SheetTyped h) (fits : CountsFit h) where
   judged =
       let s = front ++ back in
       let a = bytesOf 1 (gs .count) in
-      let b = joined groupBytes ls in
+      let b = flatMap groupBytes ls in
       let count = number-reads 1 s [] (b ++ back) (gs .count) (append-assoc a b back) (fits .groups) in
       by-test (leb 1 (gs .count) && leb (gs .count) 64)
       (λ yes.
       let few = leb-true (gs .count) 64 (and-eq-true-iff (leb 1 (gs .count)) (leb (gs .count) 64) .0 yes .1) in
-      let long : length ls ≡ gs .count = length-take-le (gs .count) (gs .list) (omega (arith, typed .room)) in
+      let long = groups-there gs (typed .groups-long) few in
       let ok = every-both (λ (g : Group). g .n < 2 ^ 8) GroupTyped ls (fits .sizes) (every-take GroupTyped (gs .count) (gs .list) (typed .groups)) in
       let read =
       rw long at (many-judges group groupBytes groupNumber levelsOf (λ g. (g .n < 2 ^ 8) × GroupTyped g) group-judges ls ok s a back (append-assoc a b back)) in

@@ -5,7 +5,7 @@ use Prim.Native.Nat.{ℕ, suc, _+_, _-_, _/_, _%_, _≤_, _<_}
 use native.Mathlib.Nat.{add-zero, sub-zero, sub-self}
 use native.Mathlib.Omega.{arith}
 use lib.ListN.{length, set}
-use Rattle.encoding.specs.CommandKinds.{bytesOf}
+use Rattle.sheet.specs.Bytes.{bytesOf}
 use Rattle.sheet.specs.Putting.{Puts}
 use Rattle.sheet.proofs.Putting.{puts-nothing, puts-byte, puts-then}
 

@@ -1,16 +1,16 @@
 -- What is found of a part of a sheet that has a number: its value, or the fault that the number is of. Assumes nothing.
 use mathlib.Core.Path.{_≡_, refl, sym, _∙_}
 use mathlib.Core.Bool.{Bool, true, false, cond}
-use mathlib.Core.List.{List, [], _∷_, _++_, map, append-assoc, append-nil}
+use mathlib.Core.List.{List, [], _∷_, _++_, map, append-assoc, append-nil, flatMap}
 use Prim.Native.Nat.{ℕ}
 use native.Mathlib.Omega.{arith}
 use lib.ListN.{length}
+use Rattle.theory.specs.Lists.{Every}
 use Rattle.theory.specs.Refusal.{orElse}
 use Rattle.theory.proofs.Cases.{by-name}
 use Rattle.theory.proofs.Refusal.{orElse-done}
 use Rattle.sheet.specs.Bytes.{Fault, missized, tied, ill-formed, numberOf, Got, fault, got, after, check, many}
-use Rattle.sheet.specs.Typed.{Every}
-use Rattle.encoding.specs.CommandKinds.{joined}
+use Rattle.sheet.proofs.FaultNumbers.{fault-number}
 use Rattle.encoding.specs.Faults.{first}
 
 -- the value, up to the end, where the number is 0; the fault, where it is a fault's. Fit and muddle are none, so that nothing is said of them
@@ -18,13 +18,13 @@ pub record Verdict {A : Type 0} (o : Got A) (number : ℕ) (x : A) (end : ℕ) :
   pub good : number ≡ 0 → o ≡ got x end
   pub bad : (f : Fault) → number ≡ numberOf f → o ≡ fault f
 
--- the numbers that no fault has
-pub no-fault : (f : Fault) → (numberOf f ≡ 0 → ⊥) × (numberOf f ≡ 2 → ⊥) × (numberOf f ≡ 3 → ⊥)
-no-fault missized = (λ e. omega arith, λ e. omega arith, λ e. omega arith)
-no-fault tied = (λ e. omega arith, λ e. omega arith, λ e. omega arith)
-no-fault ill-formed = (λ e. omega arith, λ e. omega arith, λ e. omega arith)
+-- neither fit nor muddle is a fault's
+pub no-fault : (f : Fault) → (numberOf f ≡ 2 → ⊥) × (numberOf f ≡ 3 → ⊥)
+no-fault missized = (λ e. omega arith, λ e. omega arith)
+no-fault tied = (λ e. omega arith, λ e. omega arith)
+no-fault ill-formed = (λ e. omega arith, λ e. omega arith)
 
-pub same-fault : (f g : Fault) → numberOf f ≡ numberOf g → f ≡ g
+same-fault : (f g : Fault) → numberOf f ≡ numberOf g → f ≡ g
 same-fault missized missized e = refl
 same-fault missized tied e = absurd (omega arith)
 same-fault missized ill-formed e = absurd (omega arith)
@@ -37,10 +37,10 @@ same-fault ill-formed ill-formed e = refl
 
 module _ {A : Type 0} {x : A} {end : ℕ} where
   pub verdict-got : {o : Got A} → o ≡ got x end → Verdict o 0 x end
-  verdict-got e = record { good = λ z. e; bad = λ f z. absurd (no-fault f .0 (sym z)) }
+  verdict-got e = record { good = λ z. e; bad = λ f z. absurd (fault-number f (sym z)) }
 
   pub verdict-fault : {o : Got A} (f : Fault) → o ≡ fault f → Verdict o (numberOf f) x end
-  verdict-fault f e = record { good = λ z. absurd (no-fault f .0 z); bad = λ g z. rw (← same-fault f g z) e }
+  verdict-fault f e = record { good = λ z. absurd (fault-number f z); bad = λ g z. rw (← same-fault f g z) e }
 
   pub verdict-check : (b : Bool) (f : Fault) {o : Got A} {number : ℕ} → (b ≡ true → Verdict o number x end) → Verdict (check b f o) (cond b number (numberOf f)) x end
   unfolding check
@@ -65,14 +65,14 @@ Judges {A} {B} p w judge say Ok =
     (s pre post : List ℕ) (x : B) → s ≡ pre ++ (w x ++ post) → Ok x → Verdict (p s (length pre)) (judge x) (say x) (length (pre ++ w x))
 
 pub many-judges : {A B : Type 0} (p : List ℕ → ℕ → Got A) (w : B → List ℕ) (judge : B → ℕ) (say : B → A) (Ok : B → Type 0) → Judges p w judge say Ok
-    → (xs : List B) → Every Ok xs → (s pre post : List ℕ) → s ≡ pre ++ (joined w xs ++ post)
-    → Verdict (many (length xs) (p s) (length pre)) (first judge xs) (map say xs) (length (pre ++ joined w xs))
-unfolding many joined Every first
+    → (xs : List B) → Every Ok xs → (s pre post : List ℕ) → s ≡ pre ++ (flatMap w xs ++ post)
+    → Verdict (many (length xs) (p s) (length pre)) (first judge xs) (map say xs) (length (pre ++ flatMap w xs))
+unfolding many flatMap first
 many-judges p w judge say Ok r [] ok s pre post e = verdict-got (rw append-nil)
 many-judges p w judge say Ok r (x ∷ xs) ok s pre post e =
-    let here : s ≡ pre ++ (w x ++ (joined w xs ++ post)) = e ∙ simp append-assoc in
-    let one = r s pre (joined w xs ++ post) x here (ok .0) in
+    let here : s ≡ pre ++ (w x ++ (flatMap w xs ++ post)) = e ∙ simp append-assoc in
+    let one = r s pre (flatMap w xs ++ post) x here (ok .0) in
     let rest = many-judges p w judge say Ok r xs (ok .1) s (pre ++ w x) post (here ∙ simp append-assoc) in
-    let end : (pre ++ w x) ++ joined w xs ≡ pre ++ (w x ++ joined w xs) = append-assoc pre (w x) (joined w xs) in
+    let end : (pre ++ w x) ++ flatMap w xs ≡ pre ++ (w x ++ flatMap w xs) = append-assoc pre (w x) (flatMap w xs) in
     verdict-after one (λ y next. after (many (length xs) (p s) next) (λ ys end. got (y ∷ ys) end))
     (λ none. rw (← end) (verdict-then rest (λ ys end. got (say x ∷ ys) end) refl))

@@ -2,31 +2,32 @@
 -- stand there. Assumes nothing.
 use mathlib.Core.Path.{_≡_, refl, ap, sym, _∙_}
 use mathlib.Core.Bool.{not}
-use mathlib.Core.List.{List, [], _∷_, _++_, map, append-assoc, append-nil}
+use mathlib.Core.List.{List, [], _∷_, _++_, map, append-assoc, append-nil, flatMap}
 use Prim.Native.Nat.{ℕ, zero, suc, _+_, _-_, _≤_, _<_}
 use native.Mathlib.Omega.{arith}
 use borrow.Author.Tests.{leb-true, ltb-true, le-leb, lt-ltb, eq-eqb}
 use lib.Dec.{leb, ltb}
 use lib.ListN.{length, take, drop, getD, length-take, length-drop, length-map, take-append-drop, List·getD-map}
 use lib.Seq.{drop-drop, drop-length, drop-at, take-at, take-append-seam}
+use Rattle.theory.specs.Lists.{Every}
 use Rattle.theory.specs.Reasons.{sized}
 use Rattle.theory.specs.Levels.{tied, readNumber}
 use Rattle.theory.proofs.Refusal.{readable}
 use Rattle.permutation.specs.Records.{listOf, recordOf}
 use Rattle.permutation.proofs.Records.{zeros-all}
-use Rattle.sheet.specs.Bytes.{Got, got, many, little, number}
+use Rattle.sheet.specs.Bytes.{Got, got, many, little, number, bytesOf}
 use Rattle.sheet.specs.Sheet.{group, entry, countAt, rewriteAt, storeAt, bodyAt, command, Contents, sheet}
 use Rattle.sheet.specs.Held.{groupOf, groupsOf, noEntry, noGroup, heldOf}
-use Rattle.sheet.specs.Typed.{Every, Bits}
+use Rattle.sheet.specs.Typed.{Bits}
 use Rattle.sheet.specs.declared.held.Action.the-variants.{Rewrite}
 use Rattle.sheet.specs.declared.held.Entry.{Entry}
-use Rattle.sheet.proofs.Inversion.{never, after-got, check-got, many-length, many-each}
+use Rattle.sheet.proofs.Inversion.{never, is-got, after-got, check-got, many-length, many-each}
 use Rattle.sheet.proofs.ByKind.{by-kind}
 use Rattle.sheet.proofs.Valid.{Sections, sections, valid}
 use Rattle.sheet.proofs.InMemory.{group-levels, groups-back, groups-at}
-use Rattle.sheet.proofs.Every.{every-nth, every-take, every-drop, every-map}
-use Rattle.encoding.specs.CommandKinds.{bytesOf, joined, kindOf, targeted, bodyBytes}
-use Rattle.encoding.specs.Written.{groupBytes, headBytes, entryBytes, groupsBytes, commandsBytes, sheetBytes}
+use Rattle.theory.proofs.Every.{every-nth, every-take, every-drop, every-map}
+use Rattle.encoding.specs.CommandKinds.{kindOf, targeted, bodyBytes}
+use Rattle.encoding.specs.SheetBytes.{groupBytes, headBytes, entryBytes, groupsBytes, commandsBytes, sheetBytes}
 use Rattle.encoding.specs.Said.{entrySaid, said}
 use Rattle.encoding.specs.Faults.{groupNumber, groupsNumber, targetNumber, actionNumber, entryNumber, commandsNumber, sheetNumber}
 use Rattle.encoding.proofs.Numbers.{little-bytes}
@@ -44,20 +45,13 @@ stands-then {s} {at} {mid} {end} {a} {b} p q = record { is = p .is ∙ ap (λ (l
 abbrev Spells : {A : Type 0} → List ℕ → (ℕ → Got A) → (A → List ℕ) → Type 0
 Spells {A} s p w = (at : ℕ) (x : A) (end : ℕ) → p at ≡ got x end → Stands s at end (w x)
 
--- what was read is a value y, and ends here
-is-got : {A : Type 0} (P : A → ℕ → Type 0) {x y : A} {next end : ℕ} → got x next ≡ got y end → P x next → P y end
-is-got P {x} {y} {next} {end} e h =
-    let same : x ≡ y = cc in
-    let here : next ≡ end = cc in
-    rw (← same, ← here) h
-
-many-spells : {A : Type 0} (s : List ℕ) (p : ℕ → Got A) (w : A → List ℕ) → Spells s p w → (n : ℕ) → Spells s (many n p) (joined w)
-unfolding many joined
-many-spells s p w back zero at xs end e = is-got (λ xs end. Stands s at end (joined w xs)) e (record { is = refl })
+many-spells : {A : Type 0} (s : List ℕ) (p : ℕ → Got A) (w : A → List ℕ) → Spells s p w → (n : ℕ) → Spells s (many n p) (flatMap w)
+unfolding many flatMap
+many-spells s p w back zero at xs end e = is-got (λ xs end. Stands s at end (flatMap w xs)) e (record { is = refl })
 many-spells s p w back (suc n) at xs end e =
     let one = after-got (p at) _ e in
     let more = after-got (many n p (one .1)) _ (one .3) in
-    is-got (λ xs end. Stands s at end (joined w xs)) (more .3)
+    is-got (λ xs end. Stands s at end (flatMap w xs)) (more .3)
     (stands-then (back at (one .0) (one .1) (one .2)) (many-spells s p w back n (one .1) (more .0) (more .1) (more .2)))
 
 number-spells : (s : List ℕ) → Bits 8 s → (k : ℕ) → Spells s (number k s) (bytesOf k)
@@ -164,14 +158,13 @@ command-read sizes s at e end r =
 -- ---- the sheet
 
 every-said : (es : List Entry) → Every (λ e. entrySaid e ≡ e) es → map entrySaid es ≡ es
-unfolding Every
 every-said [] h = refl
 every-said (e ∷ es) h = rw (h .0, every-said es (h .1))
 
-joined-map : {A B : Type 0} (w : B → List ℕ) (f : A → B) (xs : List A) → joined w (map f xs) ≡ joined (λ x. w (f x)) xs
-unfolding joined
-joined-map w f [] = refl
-joined-map w f (x ∷ xs) = rw (joined-map w f xs)
+flatMap-map : {A B : Type 0} (w : B → List ℕ) (f : A → B) (xs : List A) → flatMap w (map f xs) ≡ flatMap (λ x. w (f x)) xs
+unfolding flatMap
+flatMap-map w f [] = refl
+flatMap-map w f (x ∷ xs) = rw (flatMap-map w f xs)
 
 module _ (s : List ℕ) (c : Contents) (end : ℕ) (read : sheet s ≡ got c end) where
   abbrev sizes : List ℕ
@@ -233,4 +226,4 @@ module _ (s : List ℕ) (c : Contents) (end : ℕ) (read : sheet s ≡ got c end
       stands-then (number-spells s bytes 2 (p .middle) _ (p .second) (p .commands))
       (many-spells s (command sizes s) entryBytes (λ at e end r. command-read sizes s at e end r .stands bytes) _ (p .second) (c .entries) end (p .entries)) in
       let nothing : drop end s ≡ [] = rw (p .last) (drop-length s) in
-      rw (groups-front, joined-map groupBytes groupOf (c .groups), entries-front) (sym (stands-then groups entries .is ∙ rw (nothing, append-nil)))
+      rw (groups-front, flatMap-map groupBytes groupOf (c .groups), entries-front) (sym (stands-then groups entries .is ∙ rw (nothing, append-nil)))

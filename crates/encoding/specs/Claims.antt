@@ -5,21 +5,24 @@ use mathlib.Core.Bool.{true}
 use mathlib.Core.List.{List}
 use Prim.Native.Nat.{ℕ, _^_, _≤_, _<_}
 use lib.ListN.{length, getD, take}
+use Rattle.theory.specs.Lists.{Every}
 use Rattle.sheet.specs.Bytes.{Fault, numberOf, fault, got}
 use Rattle.sheet.specs.Sheet.{Contents, sheet}
-use Rattle.sheet.specs.Held.{noEntry, heldOf, groupsIn}
+use Rattle.sheet.specs.Held.{noGroup, noEntry, heldOf, levelsOf}
 use Rattle.sheet.specs.Claims.{longestSheet, exampleSheet, exampleContents}
-use Rattle.sheet.specs.Typed.{Every, Bits, SheetTyped}
+use Rattle.sheet.specs.Typed.{Bits, SheetTyped}
 use Rattle.sheet.specs.declared.held.Group.{Group}
 use Rattle.sheet.specs.declared.held.Sheet.{Sheet}
 use Rattle.encoding.specs.CommandKinds.{targeted}
-use Rattle.encoding.specs.Written.{sheetBytes}
+use Rattle.encoding.specs.SheetBytes.{sheetBytes}
 use Rattle.encoding.specs.Said.{said}
 use Rattle.encoding.specs.Faults.{sheetNumber}
 
--- k has "the same groups and commands" as h; beside a command that has a target it is the same record, and beside another nothing counts
+-- k has "the same groups and commands" as h. A target is compared beside a command that has one, and beside no other
 pub record Same (h k : Sheet) : Type 0 where
-  pub groups : groupsIn (k .groups) ≡ groupsIn (h .groups)
+  pub groups : k .groups .count ≡ h .groups .count
+  pub sizes : (g : ℕ) → g < h .groups .count → getD (k .groups .list) g noGroup .n ≡ getD (h .groups .list) g noGroup .n
+  pub levels : (g : ℕ) → g < h .groups .count → levelsOf (getD (k .groups .list) g noGroup) ≡ levelsOf (getD (h .groups .list) g noGroup)
   pub count : k .count ≡ h .count
   pub commands : (i : ℕ) → i < h .count → getD (k .entries) i noEntry .command ≡ getD (h .entries) i noEntry .command
   pub targets : (i : ℕ) → i < h .count → targeted (getD (h .entries) i noEntry .command .action) ≡ true
@@ -40,6 +43,9 @@ pub record Writing : Type 0 where
   pub accepted : (s : List ℕ) (c : Contents) (end : ℕ) → sheet s ≡ got c end → sheetNumber (heldOf c) ≡ 0
   pub says : (s : List ℕ) (c : Contents) (end : ℕ) → sheet s ≡ got c end → said (heldOf c) ≡ c
   pub written-again : (s : List ℕ) → Bits 8 s → (c : Contents) (end : ℕ) → sheet s ≡ got c end → sheetBytes (heldOf c) ≡ s
+  -- "Groups and commands that no sheet could hold are sent back", and no others: what a sheet of bytes holds is not refused, nor do things count that none holds
+  pub only : (h : Sheet) → SheetTyped h → (s : List ℕ) (c : Contents) (end : ℕ) → sheet s ≡ got c end → Same h (heldOf c) → sheetNumber h ≡ 0
+  pub unsaid : (h k : Sheet) → SheetTyped h → SheetTyped k → Same h k → sheetNumber k ≡ sheetNumber h
   -- "by the number that reading would give": the fault that its bytes have. A count above 255 has no byte, so counts that fit are asked for
   pub faults : (h : Sheet) → SheetTyped h → CountsFit h → (f : Fault) → sheetNumber h ≡ numberOf f → sheet (sheetBytes h) ≡ fault f
   pub short : (h : Sheet) → SheetTyped h → sheetNumber h ≡ 0 → length (sheetBytes h) ≤ longestSheet

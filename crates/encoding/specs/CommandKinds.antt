@@ -1,19 +1,10 @@
 -- Document 01, "one of three kinds": what each kind of command has on a sheet. A kind is added here, with a line to each definition. Assumes nothing.
 use mathlib.Core.Bool.{Bool, true, false}
-use mathlib.Core.List.{List, [], _∷_, _++_}
-use Prim.Native.Nat.{ℕ, zero, suc, _/_, _%_}
+use mathlib.Core.List.{List, _++_, flatMap}
+use Prim.Native.Nat.{ℕ}
+use Rattle.sheet.specs.Bytes.{bytesOf}
 use Rattle.sheet.specs.declared.held.Action.{Action}
 use Rattle.sheet.specs.declared.held.Action.the-variants.{Count, Rewrite, Store}
-
--- x in k bytes, "low byte first"
-unfoldable pub bytesOf : ℕ → ℕ → List ℕ
-bytesOf zero x = []
-bytesOf (suc k) x = x % 256 ∷ bytesOf k (x / 256)
-
--- what w makes of each entry, one after the other
-unfoldable pub joined : {A : Type 0} → (A → List ℕ) → List A → List ℕ
-joined w [] = []
-joined w (x ∷ xs) = w x ++ joined w xs
 
 -- "Kind 1 is count up [..] Kind 2 is rewrite [..] Kind 3 is store"
 unfoldable pub kindOf : Action → ℕ
@@ -30,5 +21,5 @@ targeted (Store m s) = false
 -- what follows the group byte: "k in four bytes", "n names", a byte each, or "m and s in eight bytes each"
 unfoldable pub bodyBytes : Action → List ℕ → List ℕ
 bodyBytes (Count k) names = bytesOf 4 k
-bodyBytes Rewrite names = joined (bytesOf 1) names
+bodyBytes Rewrite names = flatMap (bytesOf 1) names
 bodyBytes (Store m s) names = bytesOf 8 m ++ bytesOf 8 s

@@ -23,11 +23,11 @@ unfoldable pub first : {A : Type 0} → (A → ℕ) → List A → ℕ
 first number [] = done
 first number (x ∷ xs) = orElse (number x) (first number xs)
 
--- "size is judged at the n byte and a tie after the group's last level"
+-- of a group: "size is judged at the n byte and a tie after the group's last level"
 unfoldable pub groupNumber : Group → ℕ
 groupNumber g = cond (sized (g .n)) (cond (tied (levelsOf g)) tie done) size
 
--- "Groups: count G in one byte, 1 to 64."
+-- of the groups: "count G in one byte, 1 to 64"
 unfoldable pub groupsNumber : Groups → ℕ
 groupsNumber groups = cond (leb 1 (groups .count) && leb (groups .count) 64) (first groupNumber (take (groups .count) (groups .list))) ill-formed
 

@@ -2,16 +2,16 @@
 -- beside a command that has none are not said. Assumes nothing.
 use mathlib.Core.Bool.{cond}
 use mathlib.Core.List.{[], map}
-use lib.ListN.{take}
 use Rattle.permutation.specs.Records.{listOf}
 use Rattle.sheet.specs.Sheet.{Contents, entry}
-use Rattle.sheet.specs.Held.{groupsIn}
+use Rattle.sheet.specs.Held.{contentsOf}
 use Rattle.sheet.specs.declared.held.Entry.{Entry}
 use Rattle.sheet.specs.declared.held.Sheet.{Sheet}
 use Rattle.encoding.specs.CommandKinds.{targeted}
 
+-- a command, with the names of its target where it has one
 abbrev pub entrySaid : Entry → Entry
 entrySaid e = entry (e .command .group) (e .command .action) (cond (targeted (e .command .action)) (listOf (e .target)) [])
 
 unfoldable pub said : Sheet → Contents
-said sheet = record { groups = groupsIn (sheet .groups); entries = map entrySaid (take (sheet .count) (sheet .entries)) }
+said sheet = record { groups = contentsOf sheet .groups; entries = map entrySaid (contentsOf sheet .entries) }

@@ -5,9 +5,9 @@ ghost use lib.ListN.{length};
 ghost use Rattle.permutation.specs.Records.{listOf};
 ghost use Rattle.sheet.specs.Putting.{Puts};
 ghost use Rattle.sheet.specs.declared.held.Action.the-variants.{Count, Rewrite, Store};
-ghost use Rattle.encoding.specs.Written.{headBytes, actionBytes};
+ghost use Rattle.encoding.specs.SheetBytes.{headBytes, actionBytes};
 ghost use Rattle.encoding.specs.Faults.{targetNumber, actionNumber};
-ghost use Rattle.encoding.specs.Laying.{Lays};
+ghost use Rattle.encoding.specs.Lays.{Lays};
 use super::laid::Laid;
 use super::laid::done;
 use super::laid::refuse;
@@ -37,7 +37,7 @@ fn put_count(out: &mut [u8], at: usize, group: u8, k: u32) -> usize
     put_little(out, body, 4, k as u64)
 }
 
-// The names are judged here: as many as the group's n cells, and 0 past them.
+// The target is judged here, its n and that 0 stands past it; its names are put as they stand.
 fn put_rewrite(out: &mut [u8], at: usize, group: u8, n: usize, target: Permutation) -> Laid
     requires { ⌜ (at + 22 ≤ length (now out)) × (n ≤ 20) ⌝ }
     ensures { λ r. ⌜ Lays (targetNumber n target) 22 (now (out .entry)) at (now (out .exit)) r (actionBytes group Rewrite (listOf target)) ⌝ }

@@ -1,9 +1,9 @@
 // One group of the sheet.
 ghost use Prim.Native.Nat.{_+_, _≤_};
 ghost use lib.ListN.{length};
-ghost use Rattle.encoding.specs.Written.{groupBytes};
+ghost use Rattle.encoding.specs.SheetBytes.{groupBytes};
 ghost use Rattle.encoding.specs.Faults.{groupNumber};
-ghost use Rattle.encoding.specs.Laying.{Lays};
+ghost use Rattle.encoding.specs.Lays.{Lays};
 use super::laid::Laid;
 use super::laid::done;
 use super::laid::refuse;

@@ -1,9 +1,10 @@
 // Numbers in bytes, the low byte first. Each function answers the place after what it put.
 ghost use mathlib.Core.Path.{_≡_};
+ghost use mathlib.Core.List.{flatMap};
 ghost use Prim.Native.Nat.{_+_, _*_, _≤_};
 ghost use lib.ListN.{length, take};
+ghost use Rattle.sheet.specs.Bytes.{bytesOf};
 ghost use Rattle.sheet.specs.Putting.{Puts};
-ghost use Rattle.encoding.specs.CommandKinds.{bytesOf, joined};
 use permutation::cell::wide_digit;
 
 // x in k bytes at a place.
@@ -24,7 +25,7 @@ pub fn put_little(out: &mut [u8], at: usize, k: usize, x: u64) -> usize
 // Levels in two bytes each.
 pub fn put_levels(out: &mut [u8], at: usize, levels: &[u16]) -> usize
     requires { ⌜ at + 2 * length (now levels) ≤ length (now out) ⌝ }
-    ensures { λ r. ⌜ Puts (now (out .entry)) at (now (out .exit)) r (joined (bytesOf 2) (now (levels .entry))) ⌝ }
+    ensures { λ r. ⌜ Puts (now (out .entry)) at (now (out .exit)) r (flatMap (bytesOf 2) (now (levels .entry))) ⌝ }
 {
     let mut end = at;
     let mut i: usize = 0;
@@ -39,7 +40,7 @@ pub fn put_levels(out: &mut [u8], at: usize, levels: &[u16]) -> usize
 // The first n names of a row, of a byte each. All twenty are put, since a fixed number is faster: what is put next goes over the others.
 pub fn put_names(out: &mut [u8], at: usize, cells: &[u8; 20], n: usize) -> usize
     requires { ⌜ (at + 20 ≤ length (now out)) × (n ≤ 20) × (length (now cells) ≡ 20) ⌝ }
-    ensures { λ r. ⌜ Puts (now (out .entry)) at (now (out .exit)) r (joined (bytesOf 1) (take n (now (cells .entry)))) ⌝ }
+    ensures { λ r. ⌜ Puts (now (out .entry)) at (now (out .exit)) r (flatMap (bytesOf 1) (take n (now (cells .entry)))) ⌝ }
 {
     let mut end = at;
     let mut i: usize = 0;

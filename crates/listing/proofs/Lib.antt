@@ -1,3 +1,4 @@
--- Laws that the proofs of the functions use.
+-- The proofs of the claims, and the laws that the proofs of the functions use.
+pub mod Claims
 pub mod ListRows
 pub mod Listing

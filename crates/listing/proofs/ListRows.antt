@@ -10,7 +10,7 @@ use Rattle.theory.specs.Lists.{namesFrom}
 use Rattle.theory.proofs.Cases.{by-le}
 use Rattle.theory.proofs.Names.{names-length, names-at}
 use Rattle.theory.proofs.FilledRow.{Filled, filled-more, row-none, row-all}
-use Rattle.listing.specs.Lists.{rowAt, within, rows}
+use Rattle.listing.specs.LentLists.{rowAt, within, rowOf}
 
 -- ---- a row of twenty, as it stands in its list
 
@@ -23,10 +23,10 @@ module _ (xs : List ℕ) (i : ℕ) (there : 20 * i + 20 ≤ length xs) where
 
 -- ---- what is counted, as far as there is room
 
-pub within-room : (room count : ℕ) → within room count ≤ room
+within-room : (room count : ℕ) → within room count ≤ room
 within-room room count = by-le count room (λ h. rw (le-leb count room h) h) (λ h. rw (lt-leb count room h) (omega arith))
 
-pub within-count : (room count : ℕ) → within room count ≤ count
+within-count : (room count : ℕ) → within room count ≤ count
 within-count room count = by-le count room (λ h. rw (le-leb count room h) (omega arith)) (λ h. rw (lt-leb count room h) (omega arith))
 
 -- the first i places of a row of what f makes of the indices
@@ -47,7 +47,7 @@ module _ {A : Type 0} {room : ℕ} {z : A} {f : ℕ → A} {count : ℕ} {row : 
       List·getD-map f (namesFrom 0 (within room count)) i 0 ∙ ap f (names-at 0 (within room count) i inside ∙ omega arith) in
       record { is = filled-more (v .is) inside (f 0) (rw at is) }
 
-  pub rows-all : n ≤ i → row ≡ rows room z f count
+  pub rows-all : n ≤ i → row ≡ rowOf room z f count
   rows-all all = row-all room z (v .is) (omega arith)
 
 -- an index that is counted has its place, and its rows

@@ -1,4 +1,4 @@
--- Lists that are long enough, and what is answered for them. Assumes nothing.
+-- LentLists that are long enough, and what is answered for them. Assumes nothing.
 use mathlib.Core.Path.{_≡_, sym, _∙_}
 use mathlib.Core.Bool.{Bool, true, false, _&&_, and-eq-true-iff}
 use mathlib.Core.List.{List}
@@ -11,7 +11,7 @@ use Rattle.theory.proofs.Cases.{by-le}
 use Rattle.sheet.specs.declared.held.Sheet.{Sheet}
 use Rattle.writer.specs.Answers.{writeAnswer, writtenOn}
 use Rattle.writer.specs.RoundTrips.{RoundTrips}
-use Rattle.listing.specs.Lists.{Lists, listed, heldIn, listsNumber, listsAnswer, listsOn}
+use Rattle.listing.specs.LentLists.{LentLists, longEnough, heldIn, listsNumber, listsAnswer, listsOn}
 use Rattle.writer.specs.declared.answers.Written.{Written}
 
 -- as it is tested: a quotient, and no product
@@ -27,7 +27,7 @@ pub record Listed (sizes levels kinds groups numbers names : ℕ) : Type 0 where
   pub numbers-there : 2 * kinds ≤ numbers
   pub names-there : 20 * kinds ≤ names
 
-pub listed-so : (sizes levels kinds groups numbers names : ℕ) → listed sizes levels kinds groups numbers names ≡ true
+pub listed-so : (sizes levels kinds groups numbers names : ℕ) → longEnough sizes levels kinds groups numbers names ≡ true
     → Listed sizes levels kinds groups numbers names
 listed-so sizes levels kinds groups numbers names h =
     let a = and-eq-true-iff (leb (20 * sizes) levels && leb kinds groups && leb (2 * kinds) numbers) (leb (20 * kinds) names) .0 h in
@@ -41,16 +41,16 @@ listed-so sizes levels kinds groups numbers names h =
     }
 
 -- what `write_lists` ensures of r and of what it left
-abbrev Answers : Lists → List ℕ → Written → List ℕ → Type 0
-Answers l out r left = (r ≡ listsAnswer l (length out)) × ((left ≡ listsOn l out) × (r .number ≡ 0 → RoundTrips (heldIn l) out r left))
+abbrev Answers : LentLists → List ℕ → Written → List ℕ → Type 0
+Answers l out r left = (r ≡ listsAnswer l (length out)) × ((left ≡ listsOn l out) × (listsNumber l ≡ 0 → RoundTrips (heldIn l) out r left))
 
-module _ (l : Lists) (out : List ℕ) where
+module _ (l : LentLists) (out : List ℕ) where
   abbrev enough : Bool
-  enough = listed (length (l .sizes)) (length (l .levels)) (length (l .kinds)) (length (l .groups)) (length (l .numbers)) (length (l .names))
+  enough = longEnough (length (l .sizes)) (length (l .levels)) (length (l .kinds)) (length (l .groups)) (length (l .numbers)) (length (l .names))
 
   pub lists-short : enough ≡ false → Answers l out (record { number = 2; length = 0 }) out
   unfolding listsAnswer listsOn listsNumber
-  lists-short short = (rw short, (rw short, λ z. absurd (omega arith)))
+  lists-short short = (rw short, (rw short, λ z. absurd (omega (arith, rw short at z))))
 
   pub lists-written : enough ≡ true → {h : Sheet} {r : Written} {left : List ℕ}
       → r ≡ writeAnswer h (length out) → left ≡ writtenOn h out → RoundTrips h out r left → h ≡ heldIn l → Answers l out r left

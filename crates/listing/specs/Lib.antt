@@ -1,2 +1,3 @@
--- The meanings that the contracts cite.
-pub mod Lists
+-- The meanings that the contracts cite, and the claims.
+pub mod LentLists
+pub mod Claims

@@ -3,7 +3,7 @@ ghost use mathlib.Core.Path.{_≡_};
 ghost use Prim.Native.Nat.{_+_, _*_, _≤_};
 ghost use lib.ListN.{length};
 ghost use Rattle.sheet.specs.Held.{noGroup, noEntry};
-ghost use Rattle.listing.specs.Lists as meaning;
+ghost use Rattle.listing.specs.LentLists as meaning;
 use permutation::answers::Permutation;
 use sheet::held::Action;
 use sheet::held::Command;
@@ -51,7 +51,7 @@ fn name_row(names: &[u8], i: usize) -> [u8; 20]
 
 pub fn groups_in(sizes: &[usize], levels: &[u16]) -> [Group; 64]
     requires { ⌜ 20 * length (now sizes) ≤ length (now levels) ⌝ }
-    ensures { λ r. ⌜ r ≡ meaning.rows 64 noGroup (meaning.groupAt (now (sizes .entry)) (now (levels .entry))) (length (now (sizes .entry))) ⌝ }
+    ensures { λ r. ⌜ r ≡ meaning.rowOf 64 noGroup (meaning.groupAt (now (sizes .entry)) (now (levels .entry))) (length (now (sizes .entry))) ⌝ }
 {
     let count = within(64, sizes.len());
     let mut list = no_groups();
@@ -119,7 +119,7 @@ fn entry_of(kind: u8, group: u8, a: u64, b: u64, cells: [u8; 20]) -> Entry
 
 pub fn entries_in(kinds: &[u8], groups: &[u8], numbers: &[u64], names: &[u8]) -> [Entry; 1000]
     requires { ⌜ (length (now kinds) ≤ length (now groups)) × (2 * length (now kinds) ≤ length (now numbers)) × (20 * length (now kinds) ≤ length (now names)) ⌝ }
-    ensures { λ r. ⌜ r ≡ meaning.rows 1000 noEntry (meaning.entryAt (now (kinds .entry)) (now (groups .entry)) (now (numbers .entry)) (now (names .entry))) (length (now (kinds .entry))) ⌝ }
+    ensures { λ r. ⌜ r ≡ meaning.rowOf 1000 noEntry (meaning.entryAt (now (kinds .entry)) (now (groups .entry)) (now (numbers .entry)) (now (names .entry))) (length (now (kinds .entry))) ⌝ }
 {
     let count = within(1000, kinds.len());
     let mut entries = no_entries();

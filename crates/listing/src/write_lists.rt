@@ -1,7 +1,7 @@
 // A sheet that is held in lent lists, one for each field, written into a lent list of bytes.
 ghost use mathlib.Core.Path.{_≡_};
 ghost use lib.ListN.{length};
-ghost use Rattle.listing.specs.Lists as meaning;
+ghost use Rattle.listing.specs.LentLists as meaning;
 ghost use Rattle.writer.specs.RoundTrips.{RoundTrips};
 use super::lists::entries_in;
 use super::lists::groups_in;
@@ -12,7 +12,7 @@ use writer::answers::Written;
 use writer::write_sheet::write_sheet;
 
 // Are the lists long enough? By their lengths, without a product that could overflow.
-fn listed(
+fn long_enough(
     sizes: usize,
     levels: usize,
     kinds: usize,
@@ -20,7 +20,7 @@ fn listed(
     numbers: usize,
     names: usize,
 ) -> bool
-    ensures { λ r. ⌜ r ≡ meaning.listed sizes levels kinds groups numbers names ⌝ }
+    ensures { λ r. ⌜ r ≡ meaning.longEnough sizes levels kinds groups numbers names ⌝ }
 {
     if levels / 20 < sizes {
         return false;
@@ -45,9 +45,9 @@ pub fn write_lists(
 ) -> Written
     ensures answer { λ r. ⌜ r ≡ meaning.listsAnswer (meaning.lists (now (sizes .entry)) (now (levels .entry)) (now (kinds .entry)) (now (groups .entry)) (now (numbers .entry)) (now (names .entry))) (length (now (out .entry))) ⌝ }
     ensures out_left { λ _. ⌜ now (out .exit) ≡ meaning.listsOn (meaning.lists (now (sizes .entry)) (now (levels .entry)) (now (kinds .entry)) (now (groups .entry)) (now (numbers .entry)) (now (names .entry))) (now (out .entry)) ⌝ }
-    ensures round_trips { λ r. ⌜ (r .number ≡ 0 → RoundTrips (meaning.heldIn (meaning.lists (now (sizes .entry)) (now (levels .entry)) (now (kinds .entry)) (now (groups .entry)) (now (numbers .entry)) (now (names .entry)))) (now (out .entry)) r (now (out .exit))) ⌝ }
+    ensures round_trips { λ r. ⌜ (meaning.listsNumber (meaning.lists (now (sizes .entry)) (now (levels .entry)) (now (kinds .entry)) (now (groups .entry)) (now (numbers .entry)) (now (names .entry))) ≡ 0 → RoundTrips (meaning.heldIn (meaning.lists (now (sizes .entry)) (now (levels .entry)) (now (kinds .entry)) (now (groups .entry)) (now (numbers .entry)) (now (names .entry)))) (now (out .entry)) r (now (out .exit))) ⌝ }
 {
-    let enough = listed(
+    let enough = long_enough(
         sizes.len(),
         levels.len(),
         kinds.len(),

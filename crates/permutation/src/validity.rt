@@ -24,7 +24,7 @@ fn without_spots(number: u8) -> Checked
     Checked { number, spots }
 }
 
-// For other crates too: it asks for the row's twenty places.
+// Does every place past n hold 0? For other crates too: it asks for a row of twenty, and n within it.
 pub fn all_zero(cells: &[u8; 20], n: usize) -> bool
     requires { ⌜ (n ≤ 20) × (length (now cells) ≡ 20) ⌝ }
     ensures { λ r. ⌜ r ≡ allZero (drop n (now (cells .entry))) ⌝ }

@@ -10,7 +10,7 @@ use Rattle.sheet.specs.declared.groups.GroupRead.{GroupRead}
 use Rattle.sheet.specs.declared.commands.EntryRead.{EntryRead}
 
 -- no fault has the number 0
-fault-number : (f : Fault) → numberOf f ≡ 0 → ⊥
+pub fault-number : (f : Fault) → numberOf f ≡ 0 → ⊥
 fault-number missized e = omega arith
 fault-number tied e = omega arith
 fault-number ill-formed e = omega arith

@@ -11,6 +11,13 @@ use Rattle.sheet.specs.Bytes.{Fault, Got, fault, got, after, check, many
 pub never : {A B : Type 0} {f : Fault} {x : A} {end : ℕ} → fault f ≡ got x end → B
 never {f} {x} {end} e = let z : _≡_ {A = ℕ} 0 1 = cc in absurd (omega arith)
 
+-- what was read is a value y, and ends here
+pub is-got : {A : Type 0} (P : A → ℕ → Type 0) {x y : A} {next end : ℕ} → got x next ≡ got y end → P x next → P y end
+is-got P {x} {y} {next} {end} e h =
+    let same : x ≡ y = cc in
+    let here : next ≡ end = cc in
+    rw (← same, ← here) h
+
 pub after-got : {A B : Type 0} (o : Got A) (k : A → ℕ → Got B) {y : B} {end : ℕ} → after o k ≡ got y end
     → (x : A) × (next : ℕ) × (o ≡ got x next) × (k x next ≡ got y end)
 unfolding after

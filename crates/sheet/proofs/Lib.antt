@@ -10,5 +10,4 @@ pub mod ByteNumbers
 pub mod FaultNumbers
 pub mod ByTests
 pub mod Putting
-pub mod Every
 pub mod Typed

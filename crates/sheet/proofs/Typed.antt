@@ -1,13 +1,16 @@
 -- What a function is told of a sheet that it is handed: the ranges that the types give. Assumes nothing.
 use mathlib.Core.Path.{_≡_, sym, _∙_}
 use mathlib.Core.List.{List, [], _∷_, map}
-use Prim.Native.Nat.{_^_, _<_}
-use lib.ListN.{length, length-map}
+use Prim.Native.Nat.{_^_, _≤_, _<_}
+use native.Mathlib.Omega.{arith}
+use lib.ListN.{length, take, length-map}
+use lib.Seq.{length-take-le}
 use mir.Val.{Val}
 use denote.Laws.{Is}
 use denote.Shadow.{shadow}
 use denote.Array.{each}
 use denote.Struct.Field.{Field, u8-field, u16-field}
+use Rattle.theory.specs.Lists.{Every}
 use Rattle.sheet.specs.declared.held.Action.{Action}
 use Rattle.sheet.specs.declared.held.Action.the-variants.{Count, Rewrite, Store}
 use Rattle.sheet.specs.declared.held.Group.{Group}
@@ -19,12 +22,11 @@ use Rattle.sheet.proofs.held.Group as group
 use Rattle.sheet.proofs.held.Groups as groups
 use Rattle.sheet.proofs.held.Entry as entry
 use Rattle.sheet.proofs.held.Sheet as sheet
-use Rattle.sheet.specs.Typed.{Every, GroupTyped, ActionTyped, EntryTyped, SheetTyped}
+use Rattle.sheet.specs.Typed.{GroupTyped, ActionTyped, EntryTyped, SheetTyped}
 
 -- what the type of a field tells of each value of an array
 every-typed : (F : Field) (P : F .Value → Type 0) → ((x : F .Value) (vs : List Val) → Is (F .row) (F .into x) vs → P x)
     → (xs : List (F .Value)) (us : List Val) → shadow (each (F .row .Denot) (F .row .own) (map (F .into) xs) us) → Every P xs
-unfolding Every
 every-typed F P tells [] us p = tt
 every-typed F P tells (x ∷ xs) [] p = absurd p
 every-typed F P tells (x ∷ xs) (u ∷ us) p = (tells x (u ∷ []) (p .0), every-typed F P tells xs us (p .1))
@@ -34,7 +36,7 @@ group-typed g vs p =
     let levels = p .1 .1 .1 .0 in
     record {
       long = sym (length-map (g .levels) (λ v. v)) ∙ levels .1 .0 .1;
-      fit = every-typed u16-field (λ l. l < 2 ^ 16) (λ l vs q. q .1) (g .levels) (levels .0) (levels .1 .1);
+      bits = every-typed u16-field (λ l. l < 2 ^ 16) (λ l vs q. q .1) (g .levels) (levels .0) (levels .1 .1);
     }
 
 action-typed : (a : Action) (vs : List Val) → Is (action.the-field .row) (action.the-field .into a) vs → ActionTyped a
@@ -52,7 +54,7 @@ entry-typed e vs p =
       group = command .0 .1;
       action = action-typed (e .command .action) _ (command .1 .0);
       long = sym (length-map (e .target .cells) (λ v. v)) ∙ cells .1 .0 .1;
-      fit = every-typed u8-field (λ b. b < 2 ^ 8) (λ b vs q. q .1) (e .target .cells) (cells .0) (cells .1 .1);
+      bits = every-typed u8-field (λ b. b < 2 ^ 8) (λ b vs q. q .1) (e .target .cells) (cells .0) (cells .1 .1);
     }
 
 pub groups-room : (gs : Groups) (vs : List Val) → Is groups.the-row gs vs → length (gs .list) ≡ 64
@@ -64,8 +66,15 @@ sheet-typed h vs p =
     let list = parts .0 .1 .1 .1 .0 in
     let entries = parts .1 .1 .0 in
     record {
-      room = sym (length-map (h .groups .list) (group.the-field .into)) ∙ list .1 .0 .1;
+      groups-long = sym (length-map (h .groups .list) (group.the-field .into)) ∙ list .1 .0 .1;
       groups = every-typed group.the-field GroupTyped group-typed (h .groups .list) (list .0) (list .1 .1);
-      long = sym (length-map (h .entries) (entry.the-field .into)) ∙ entries .1 .0 .1;
+      entries-long = sym (length-map (h .entries) (entry.the-field .into)) ∙ entries .1 .0 .1;
       entries = every-typed entry.the-field EntryTyped entry-typed (h .entries) (entries .0) (entries .1 .1);
     }
+
+-- what is counted is there
+pub groups-there : (gs : Groups) → length (gs .list) ≡ 64 → gs .count ≤ 64 → length (take (gs .count) (gs .list)) ≡ gs .count
+groups-there gs long few = length-take-le (gs .count) (gs .list) (omega arith)
+
+pub entries-there : (h : Sheet) → SheetTyped h → h .count ≤ 1000 → length (take (h .count) (h .entries)) ≡ h .count
+entries-there h typed few = length-take-le (h .count) (h .entries) (omega (arith, typed .entries-long))

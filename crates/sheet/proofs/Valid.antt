@@ -1,5 +1,5 @@
 -- What is known of a sheet that was read without fault. Assumes nothing.
-use mathlib.Core.Path.{_≡_, sym, _∙_}
+use mathlib.Core.Path.{_≡_, refl, sym, _∙_}
 use mathlib.Core.Bool.{not, _&&_, and-eq-true-iff}
 use mathlib.Core.List.{List, [], map}
 use Prim.Native.Nat.{ℕ, _≤_, _<_}
@@ -17,7 +17,7 @@ use Rattle.sheet.specs.Sheet.{group, countAt, rewriteAt, storeAt, bodyAt
 use Rattle.sheet.specs.Held.{noEntry}
 use Rattle.sheet.specs.Claims.{Each, Valid}
 use Rattle.sheet.specs.Parts.{Small}
-use Rattle.sheet.proofs.Inversion.{never, after-got, check-got, many-length, many-each}
+use Rattle.sheet.proofs.Inversion.{never, is-got, after-got, check-got, many-length, many-each}
 use Rattle.sheet.proofs.ByKind.{by-kind}
 
 -- ---- a group, and the groups
@@ -41,17 +41,15 @@ module _ (s : List ℕ) where
 
 -- ---- a command
 
--- entries that are read alike have one group number
-same-group : {x e : Entry} {last end : ℕ} → got x last ≡ got e end → e .command .group ≡ x .command .group
-same-group {x} {e} {last} {end} r = let is : e ≡ x = cc in rw is
-
 body-group : (g n kind : ℕ) (s : List ℕ) (at : ℕ) (e : Entry) (end : ℕ) → bodyAt kind g n s at ≡ got e end → e .command .group ≡ g
 unfolding countAt rewriteAt storeAt
 body-group g n =
     by-kind (λ kind body. (s : List ℕ) (at : ℕ) (e : Entry) (end : ℕ) → body s at ≡ got e end → e .command .group ≡ g) g n
-    (λ s at e end r. same-group (after-got (number 4 s at) _ r .3))
-    (λ s at e end r. same-group (after-got (many n (number 1 s) at) _ r .3))
-    (λ s at e end r. let m = after-got (number 8 s at) _ r in same-group (after-got (number 8 s (m .1)) _ (m .3) .3))
+    (λ s at e end r. is-got (λ e end. e .command .group ≡ g) (after-got (number 4 s at) _ r .3) refl)
+    (λ s at e end r. is-got (λ e end. e .command .group ≡ g) (after-got (many n (number 1 s) at) _ r .3) refl)
+    (λ s at e end r. (
+    let m = after-got (number 8 s at) _ r in
+    is-got (λ e end. e .command .group ≡ g) (after-got (number 8 s (m .1)) _ (m .3) .3) refl))
     (λ kind s at e end r. never r)
 
 command-named : (sizes s : List ℕ) (at : ℕ) (e : Entry) (end : ℕ) → command sizes s at ≡ got e end → e .command .group < length sizes
@@ -78,12 +76,6 @@ pub record Sections (s : List ℕ) (c : Contents) (end : ℕ) : Type 0 where
   pub entries : many (length (c .entries)) (command (map length (c .groups)) s) second ≡ got (c .entries) end
   pub last : end ≡ length s
 
-sections-of : {s : List ℕ} {x c : Contents} {next end : ℕ} → got x next ≡ got c end → Sections s x next → Sections s c end
-sections-of {s} {x} {c} {next} {end} e h =
-    let same : x ≡ c = cc in
-    let far : next ≡ end = cc in
-    rw (← same, ← far) h
-
 pub sections : (s : List ℕ) (c : Contents) (end : ℕ) → sheet s ≡ got c end → Sections s c end
 unfolding sheet commands commandRow
 sections s c end r =
@@ -97,7 +89,7 @@ sections s c end r =
     let whole = check-got (eqb (list .1) (length s)) _ _ (list .3) in
     let groups : length (row .0) ≡ one .0 = many-length (group s) (one .0) (one .1) (row .0) (row .1) (row .2) in
     let entries : length (list .0) ≡ two .0 = many-length (command (map length (row .0)) s) (two .0) (two .1) (list .0) (list .1) (list .2) in
-    sections-of (whole .1) (record {
+    is-got (Sections s) (whole .1) (record {
       first = one .1;
       middle = row .1;
       second = two .1;

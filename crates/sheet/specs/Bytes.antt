@@ -1,7 +1,7 @@
 -- Reading bytes from a place on: a fault, or a value and the place after it. Places are counted from 0. Assumes nothing.
 use mathlib.Core.Bool.{Bool, true, false}
 use mathlib.Core.List.{List, [], _∷_}
-use Prim.Native.Nat.{ℕ, zero, suc, _+_, _*_}
+use Prim.Native.Nat.{ℕ, zero, suc, _+_, _*_, _/_, _%_}
 use lib.Dec.{leb}
 use lib.ListN.{length, take, drop}
 use Rattle.theory.specs.Reasons as reasons
@@ -40,6 +40,11 @@ many (suc n) p at = after (p at) (λ x next. after (many n p next) (λ xs end. g
 unfoldable pub little : List ℕ → ℕ
 little [] = 0
 little (b ∷ bs) = b + 256 * little bs
+
+-- and back: x in k bytes
+unfoldable pub bytesOf : ℕ → ℕ → List ℕ
+bytesOf zero x = []
+bytesOf (suc k) x = x % 256 ∷ bytesOf k (x / 256)
 
 -- a number of k bytes; "an early end" is ill-formed
 unfoldable pub number : ℕ → List ℕ → ℕ → Got ℕ

@@ -40,7 +40,7 @@ unfoldable pub sheetAnswer : Got Contents → SheetRead
 sheetAnswer (fault f) = record { number = numberOf f; sheet = heldOf noContents }
 sheetAnswer (got c end) = record { number = 0; sheet = heldOf c }
 
--- ---- and back: what a sheet in memory says
+-- ---- and back: what the rows hold
 
 abbrev pub levelsOf : Group → List ℕ
 levelsOf g = take (g .n) (g .levels)

@@ -1,18 +1,15 @@
--- What the types of a held sheet say of it: how long its rows are, and what its numbers fit. Assumes nothing.
+-- What the types of a held sheet say of it: how long its rows are, and what levels, names and the numbers of commands fit. Counts and each n are any numbers.
+-- Assumes nothing.
 use mathlib.Core.Path.{_≡_}
-use mathlib.Core.List.{List, [], _∷_}
+use mathlib.Core.List.{List}
 use Prim.Native.Nat.{ℕ, _^_, _<_}
 use lib.ListN.{length}
+use Rattle.theory.specs.Lists.{Every}
 use Rattle.sheet.specs.declared.held.Action.{Action}
 use Rattle.sheet.specs.declared.held.Action.the-variants.{Count, Rewrite, Store}
 use Rattle.sheet.specs.declared.held.Group.{Group}
 use Rattle.sheet.specs.declared.held.Entry.{Entry}
 use Rattle.sheet.specs.declared.held.Sheet.{Sheet}
-
--- what holds of every entry of a list
-unfoldable pub Every : {A : Type 0} → (A → Type 0) → List A → Type 0
-Every P [] = Unit {0}
-Every P (x ∷ xs) = P x × Every P xs
 
 -- numbers of k bits
 abbrev pub Bits : ℕ → List ℕ → Type 0
@@ -20,7 +17,7 @@ Bits k xs = Every (λ x. x < 2 ^ k) xs
 
 pub record GroupTyped (g : Group) : Type 0 where
   pub long : length (g .levels) ≡ 20
-  pub fit : Bits 16 (g .levels)
+  pub bits : Bits 16 (g .levels)
 
 unfoldable pub ActionTyped : Action → Type 0
 ActionTyped (Count k) = k < 2 ^ 32
@@ -31,10 +28,10 @@ pub record EntryTyped (e : Entry) : Type 0 where
   pub group : e .command .group < 2 ^ 8
   pub action : ActionTyped (e .command .action)
   pub long : length (e .target .cells) ≡ 20
-  pub fit : Bits 8 (e .target .cells)
+  pub bits : Bits 8 (e .target .cells)
 
 pub record SheetTyped (h : Sheet) : Type 0 where
-  pub room : length (h .groups .list) ≡ 64
+  pub groups-long : length (h .groups .list) ≡ 64
   pub groups : Every GroupTyped (h .groups .list)
-  pub long : length (h .entries) ≡ 1000
+  pub entries-long : length (h .entries) ≡ 1000
   pub entries : Every EntryTyped (h .entries)

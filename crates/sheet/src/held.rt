@@ -1,10 +1,11 @@
-// A bench sheet in memory: groups and commands in rows of fixed length, filled from the front. Past them stand zeros.
+// A bench sheet in memory: groups and commands in rows of fixed length, filled from the front. In one that was read, zeros stand past them, past each n, and in the
+// target of a command that has none; in any other whatever does.
 ghost use mathlib.Core.Path.{_≡_};
 ghost use lib.ListN.{replicate};
 ghost use Rattle.sheet.specs.Held.{noGroup, noEntry};
 use permutation::answers::Permutation;
 
-// n cells, and their levels by name with 0 past n.
+// n cells, and their levels by name.
 pub struct Group {
     pub n: usize,
     pub levels: [u16; 20],
@@ -27,7 +28,7 @@ pub struct Command {
     pub action: Action,
 }
 
-// A command, and beside it the target of a rewrite; other kinds have that of no cells.
+// A command, and beside it the target of a rewrite.
 pub struct Entry {
     pub command: Command,
     pub target: Permutation,

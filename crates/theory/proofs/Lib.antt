@@ -10,6 +10,7 @@ pub mod Least
 pub mod Factorials
 pub mod Padding
 pub mod FilledRow
+pub mod Every
 pub mod InTurn
 pub mod Splits
 pub mod Moves

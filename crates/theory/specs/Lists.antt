@@ -1,4 +1,4 @@
--- Lists of cell names: how often a name stands in one, whether it does, what is left without some names, and the names 1 to n; lists in a row.
+-- Lists of cell names: how often a name stands in one, whether it does, what is left without some names, and the names 1 to n; lists in a row; what holds of every entry.
 -- Assumes nothing.
 use mathlib.Core.Bool.{Bool, true, false, cond, _&&_, _||_}
 use mathlib.Core.List.{List, [], _∷_, _++_}
@@ -48,3 +48,8 @@ names n = namesFrom 1 n
 -- a list in a row of `room` places, with z past it
 abbrev pub padded : {A : Type 0} → ℕ → A → List A → List A
 padded room z xs = xs ++ replicate (room - length xs) z
+
+-- what holds of every entry of a list
+abbrev pub Every : {A : Type 0} → (A → Type 0) → List A → Type 0
+Every P [] = Unit {0}
+Every P (x ∷ xs) = P x × Every P xs

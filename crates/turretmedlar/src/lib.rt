@@ -14,7 +14,7 @@ ghost use Rattle.layout.specs.Text.{textOf};
 ghost use Rattle.text.specs.Answers.{printAnswer, printedOn};
 ghost use Rattle.text.specs.Claims.{textBound};
 ghost use Rattle.writer.specs.RoundTrips.{RoundTrips};
-ghost use Rattle.listing.specs.Lists.{lists, heldIn, listsAnswer, listsOn};
+ghost use Rattle.listing.specs.LentLists.{lists, heldIn, listsNumber, listsAnswer, listsOn};
 use charge::answers::Pushes;
 use charge::count_up::count_up;
 use charge::push_level::push_level;
@@ -143,7 +143,7 @@ pub extern "C" fn tm_write_sheet(
 ) -> Written
     ensures answer { λ r. ⌜ r ≡ listsAnswer (lists (now (sizes .entry)) (now (levels .entry)) (now (kinds .entry)) (now (groups .entry)) (now (numbers .entry)) (now (names .entry))) (length (now (out .entry))) ⌝ }
     ensures out_left { λ _. ⌜ now (out .exit) ≡ listsOn (lists (now (sizes .entry)) (now (levels .entry)) (now (kinds .entry)) (now (groups .entry)) (now (numbers .entry)) (now (names .entry))) (now (out .entry)) ⌝ }
-    ensures round_trips { λ r. ⌜ (r .number ≡ 0 → RoundTrips (heldIn (lists (now (sizes .entry)) (now (levels .entry)) (now (kinds .entry)) (now (groups .entry)) (now (numbers .entry)) (now (names .entry)))) (now (out .entry)) r (now (out .exit))) ⌝ }
+    ensures round_trips { λ r. ⌜ (listsNumber (lists (now (sizes .entry)) (now (levels .entry)) (now (kinds .entry)) (now (groups .entry)) (now (numbers .entry)) (now (names .entry))) ≡ 0 → RoundTrips (heldIn (lists (now (sizes .entry)) (now (levels .entry)) (now (kinds .entry)) (now (groups .entry)) (now (numbers .entry)) (now (names .entry)))) (now (out .entry)) r (now (out .exit))) ⌝ }
 {
     write_lists(sizes, levels, kinds, groups, numbers, names, out)
 }

@@ -8,7 +8,7 @@ use borrow.Author.Tests.{le-leb, lt-leb, ne-eqb}
 use Rattle.theory.proofs.Cases.{by-name}
 use Rattle.sheet.specs.declared.held.Sheet.{Sheet}
 use Rattle.encoding.specs.Faults.{sheetNumber}
-use Rattle.encoding.specs.Written.{sheetBytes}
+use Rattle.encoding.specs.SheetBytes.{sheetBytes}
 use Rattle.writer.specs.Answers.{writeNumber, writeAnswer, writtenOn}
 use Rattle.sheet.specs.Putting.{Puts}
 use Rattle.sheet.proofs.Putting.{laid-length, laid-onto}

@@ -17,7 +17,7 @@ use Rattle.sheet.specs.Typed.{SheetTyped}
 use Rattle.sheet.specs.declared.held.Sheet.{Sheet}
 use Rattle.sheet.specs.declared.held.SheetRead.{SheetRead}
 use Rattle.sheet.proofs.FaultNumbers.{sheet-tells-fault, answered-got}
-use Rattle.encoding.specs.Written.{sheetBytes}
+use Rattle.encoding.specs.SheetBytes.{sheetBytes}
 use Rattle.encoding.specs.Said.{said}
 use Rattle.encoding.specs.Faults.{sheetNumber}
 use Rattle.writer.specs.Answers.{writeNumber, writeAnswer, writtenOn}
@@ -60,11 +60,19 @@ module _ (h : Sheet) (out : List ℕ) where
     unfolding sheetAnswer
     read-so none = rw (writing .read-again h typed none)
 
+    -- what was written is read as what is said
+    read-back : writeAnswer h (length out) .number ≡ 0
+        → sheetAnswer (sheet (take (writeAnswer h (length out) .length) (writtenOn h out))) ≡ record { number = 0; sheet = heldOf (said h) }
+    read-back z = let d = done-so z in let a = answered (d .0) (d .1) in rw (a .0, a .1) (read-so (d .0))
+
     pub round-trips : {r : Written} {left : List ℕ} → r ≡ writeAnswer h (length out) → left ≡ writtenOn h out → RoundTrips h out r left
     round-trips {r} {left} is on = rw (is, on) record {
-      read = λ z. (let d = done-so z in let a = answered (d .0) (d .1) in rw (a .0, a .1) (read-so (d .0)));
+      read = read-back;
       same = λ z. writing .same h typed (done-so z .0);
-      itself = λ s e. (let f = found s h e in rw (f .3) (ap heldOf (writing .says s (f .0) (f .1) (f .2))));
+      itself = λ s e z. (
+          let f = found s h e in
+          let same : heldOf (said h) ≡ h = rw (f .3) (ap heldOf (writing .says s (f .0) (f .1) (f .2))) in
+          rw same at (read-back z));
       again = λ s bytes e room. (
           let f = found s h e in
           let bytes-are : sheetBytes h ≡ s = rw (f .3) (writing .written-again s bytes (f .0) (f .1) (f .2)) in

@@ -8,7 +8,7 @@ use Rattle.theory.specs.Reasons.{done, paper}
 use Rattle.theory.specs.Refusal.{given, orElse}
 use Rattle.sheet.specs.Putting.{onto}
 use Rattle.sheet.specs.declared.held.Sheet.{Sheet}
-use Rattle.encoding.specs.Written.{sheetBytes}
+use Rattle.encoding.specs.SheetBytes.{sheetBytes}
 use Rattle.encoding.specs.Faults.{sheetNumber}
 use Rattle.writer.specs.declared.answers.Written.{Written}
 

@@ -20,7 +20,8 @@ pub record RoundTrips (h : Sheet) (out : List ℕ) (r : Written) (left : List �
   -- and that is the same groups and commands
   pub same : r .number ≡ 0 → Same h (heldOf (said h))
   -- it is h itself where h was read
-  pub itself : (s : List ℕ) → sheetAnswer (sheet s) ≡ record { number = 0; sheet = h } → heldOf (said h) ≡ h
+  pub itself : (s : List ℕ) → sheetAnswer (sheet s) ≡ record { number = 0; sheet = h } → r .number ≡ 0
+      → sheetAnswer (sheet (take (r .length) left)) ≡ record { number = 0; sheet = h }
   -- a sheet that was read as h is written again, byte by byte, wherever there is room for it
   pub again : (s : List ℕ) → Bits 8 s → sheetAnswer (sheet s) ≡ record { number = 0; sheet = h } → length s ≤ length out
       → (r .number ≡ 0) × (r .length ≡ length s) × (take (r .length) left ≡ s)

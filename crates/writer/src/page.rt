@@ -2,9 +2,9 @@
 ghost use Prim.Native.Nat.{_+_, _≤_};
 ghost use lib.ListN.{length};
 ghost use Rattle.sheet.specs.Claims.{longestSheet};
-ghost use Rattle.encoding.specs.Written.{groupsBytes, commandsBytes, sheetBytes};
+ghost use Rattle.encoding.specs.SheetBytes.{groupsBytes, commandsBytes, sheetBytes};
 ghost use Rattle.encoding.specs.Faults.{groupsNumber, commandsNumber, sheetNumber};
-ghost use Rattle.encoding.specs.Laying.{Lays, SmallGroups};
+ghost use Rattle.encoding.specs.Lays.{Lays, SmallGroups};
 use encoding::commands::put_command;
 use encoding::groups::put_group;
 use encoding::laid::Laid;
@@ -16,7 +16,7 @@ use permutation::reasons::SHEET;
 use sheet::held::Groups;
 use sheet::held::Sheet;
 
-// The groups, from the sheet's first byte.
+// The groups, from the sheet's first byte: at most 1 + 64 × 41 bytes.
 fn put_groups(out: &mut [u8], groups: Groups) -> Laid
     requires { ⌜ longestSheet ≤ length (now out) ⌝ }
     ensures { λ r. ⌜ Lays (groupsNumber groups) 2625 (now (out .entry)) 0 (now (out .exit)) r (groupsBytes groups) ⌝ }
@@ -42,7 +42,7 @@ fn put_groups(out: &mut [u8], groups: Groups) -> Laid
     done(at)
 }
 
-// The commands after the groups.
+// The commands after the groups: at most 2 + 1,000 × 22 bytes.
 fn put_commands(out: &mut [u8], from: usize, sheet: Sheet) -> Laid
     requires { ⌜ (from + 22002 ≤ length (now out)) × SmallGroups (sheet .groups) ⌝ }
     ensures { λ r. ⌜ Lays (commandsNumber sheet) 22002 (now (out .entry)) from (now (out .exit)) r (commandsBytes sheet) ⌝ }
@@ -76,7 +76,7 @@ fn put_commands(out: &mut [u8], from: usize, sheet: Sheet) -> Laid
 
 pub fn put_sheet(out: &mut [u8], sheet: Sheet) -> Laid
     requires { ⌜ longestSheet ≤ length (now out) ⌝ }
-    ensures { λ r. ⌜ Lays (sheetNumber sheet) 24627 (now (out .entry)) 0 (now (out .exit)) r (sheetBytes sheet) ⌝ }
+    ensures { λ r. ⌜ Lays (sheetNumber sheet) longestSheet (now (out .entry)) 0 (now (out .exit)) r (sheetBytes sheet) ⌝ }
 {
     let groups = sheet.groups;
     let laid = put_groups(out, groups);

@@ -1,6 +1,6 @@
 -- `encoding::commands::put_head` meets its contract: two numbers of a byte. Assumes nothing.
 use native.Mathlib.Omega.{arith}
-use Rattle.encoding.specs.Written.{headBytes}
+use Rattle.encoding.specs.SheetBytes.{headBytes}
 use Rattle.encoding.proofs.Pieces.{number-end}
 use Rattle.sheet.proofs.Putting.{puts-then}
 use borrow.Author.Needs.{needs}

@@ -10,7 +10,7 @@ use Rattle.theory.specs.Reasons.{sized}
 use Rattle.theory.proofs.Refusal.{size-range, within-none, within-some, tested}
 use Rattle.sheet.specs.declared.held.Group.{Group}
 use Rattle.sheet.proofs.Putting.{puts-then}
-use Rattle.encoding.specs.Written.{groupBytes}
+use Rattle.encoding.specs.SheetBytes.{groupBytes}
 use Rattle.encoding.proofs.ByTests.{group-missized, group-tied, group-clear}
 use Rattle.encoding.proofs.Pieces.{number-end, numbers-end}
 use Rattle.encoding.proofs.Lays.{lays-refused, lays-put}

@@ -1,22 +1,23 @@
 -- `encoding::little::put_levels` meets its contract: the levels up to i were put. Assumes nothing.
+use mathlib.Core.List.{flatMap}
 use Prim.Native.Nat.{_-_}
 use native.Mathlib.Omega.{arith}
 use lib.ListN.{length}
-use Rattle.encoding.specs.CommandKinds.{bytesOf, joined}
+use Rattle.sheet.specs.Bytes.{bytesOf}
 use Rattle.sheet.proofs.Putting.{Row, row-start, row-next, row-end}
-use Rattle.encoding.proofs.Pieces.{joined-grows, number-end}
+use Rattle.encoding.proofs.Pieces.{flatMap-grows, number-end}
 use borrow.Author.Needs.{needs}
 use Rattle.encoding.proofs.little.put_levels.Statement.{statement}
 use Rattle.encoding.proofs.little.put_levels.Tie as tie
 
 abbrev Inv-loop : tie.InvT-loop
-Inv-loop out₀ at levels end₀ i₀ out end i = Row (joined (bytesOf 2)) levels 2 out₀ at out end i
+Inv-loop out₀ at levels end₀ i₀ out end i = Row (flatMap (bytesOf 2)) levels 2 out₀ at out end i
 
 abbrev μ-loop : tie.MeasureT-loop
 μ-loop out₀ at levels end₀ i₀ out end i = length levels - i
 
 loop-holds : tie.Need-loop-holds Inv-loop μ-loop
-loop-holds c = row-start (joined-grows (bytesOf 2)) _ _ _ _
+loop-holds c = row-start (flatMap-grows (bytesOf 2)) _ _ _ _
 
 mul-level : tie.Need-mul-level Inv-loop μ-loop
 mul-level c = search needs
@@ -40,14 +41,14 @@ loop-again : tie.Need-loop-again Inv-loop μ-loop
 loop-again c =
     let l = c .before .before .before .before .before .before .loop in
     let put = c .before .before .put-little .ensures in
-    row-next (joined-grows (bytesOf 2)) _ _ _ _ (l .inv) (c .before .before .before .before .before .loop-test .taken) 0 put
+    row-next (flatMap-grows (bytesOf 2)) _ _ _ _ (l .inv) (c .before .before .before .before .before .loop-test .taken) 0 put
     (omega (arith, number-end 2 _ put))
 
 same-length : tie.Need-same-length Inv-loop μ-loop
 same-length c = c .before .loop .inv .put .long
 
 returns : tie.Need-returns Inv-loop μ-loop
-returns c = row-end (joined-grows (bytesOf 2)) _ _ _ _ (c .before .loop .inv) (c .loop-test .left)
+returns c = row-end (flatMap-grows (bytesOf 2)) _ _ _ _ (c .before .loop .inv) (c .loop-test .left)
 
 pub put-levels-spec : {M : Type 1} → statement M
 put-levels-spec =

@@ -1,7 +1,7 @@
 -- `listing::lists::command_of` meets its contract: each kind by its own. Assumes nothing.
 use mathlib.Core.Path.{_∙_}
 use borrow.Author.Tests.{ne-eqb}
-use Rattle.listing.specs.Lists.{commandOf}
+use Rattle.listing.specs.LentLists.{commandOf}
 use Rattle.listing.proofs.lists.command_of.Statement.{statement}
 use Rattle.listing.proofs.lists.command_of.Tie as tie
 

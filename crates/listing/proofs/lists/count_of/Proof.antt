@@ -2,7 +2,7 @@
 use mathlib.Core.Path.{_∙_}
 use borrow.Author.Needs.{needs}
 use borrow.Author.Tests.{le-leb, lt-leb}
-use Rattle.listing.specs.Lists.{countOf}
+use Rattle.listing.specs.LentLists.{countOf}
 use Rattle.listing.proofs.lists.count_of.Statement.{statement}
 use Rattle.listing.proofs.lists.count_of.Tie as tie
 

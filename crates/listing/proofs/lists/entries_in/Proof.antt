@@ -5,7 +5,7 @@ use native.Mathlib.Omega.{arith}
 use borrow.Author.Needs.{needs}
 use lib.ListN.{length}
 use Rattle.sheet.specs.Held.{noEntry}
-use Rattle.listing.specs.Lists.{entryAt}
+use Rattle.listing.specs.LentLists.{entryAt}
 use Rattle.listing.proofs.ListRows.{RowsFilled, rows-none, rows-more, rows-all, counted-room, counted-there}
 use Rattle.listing.proofs.lists.entries_in.Statement.{statement}
 use Rattle.listing.proofs.lists.entries_in.Tie as tie

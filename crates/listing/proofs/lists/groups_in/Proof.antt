@@ -4,7 +4,7 @@ use native.Mathlib.Omega.{arith}
 use borrow.Author.Needs.{needs}
 use lib.ListN.{length}
 use Rattle.sheet.specs.Held.{noGroup}
-use Rattle.listing.specs.Lists.{groupAt}
+use Rattle.listing.specs.LentLists.{groupAt}
 use Rattle.listing.proofs.ListRows.{RowsFilled, rows-none, rows-more, rows-all, counted-room, counted-there}
 use Rattle.listing.proofs.lists.groups_in.Statement.{statement}
 use Rattle.listing.proofs.lists.groups_in.Tie as tie

@@ -6,7 +6,7 @@ use native.Mathlib.Omega.{arith}
 use borrow.Author.Needs.{needs}
 use lib.ListN.{replicate, length-replicate}
 use Rattle.theory.proofs.FilledRow.{Filled, filled-none, filled-more, filled-all}
-use Rattle.listing.specs.Lists.{rowAt}
+use Rattle.listing.specs.LentLists.{rowAt}
 use Rattle.listing.proofs.ListRows.{row-length, row-at}
 use Rattle.listing.proofs.lists.name_row.Statement.{statement}
 use Rattle.listing.proofs.lists.name_row.Tie as tie

@@ -2,20 +2,20 @@
 use mathlib.Core.Path.{sym, _∙_}
 use borrow.Author.Needs.{needs}
 use lib.ListN.{length}
-use Rattle.listing.specs.Lists.{Lists, lists, heldIn}
+use Rattle.listing.specs.LentLists.{LentLists, lists, heldIn}
 use Rattle.listing.proofs.Listing.{Listed, listed-so, lists-short, lists-written}
 use Rattle.listing.proofs.write_lists.write_lists.Statement.{statement}
 use Rattle.listing.proofs.write_lists.write_lists.Tie as tie
 
 -- the lists that are lent
-abbrev lent : tie.Start → Lists
+abbrev lent : tie.Start → LentLists
 lent s = let a = s .args in lists (a .sizes .now) (a .levels .now) (a .kinds .now) (a .groups .now) (a .numbers .now) (a .names .now)
 
 -- past the test they are long enough
 enough : (c : tie.Then1)
     → let l = lent (c .before .before .before .before .before .before .before .before .before) in
     Listed (length (l .sizes)) (length (l .levels)) (length (l .kinds)) (length (l .groups)) (length (l .numbers)) (length (l .names))
-enough c = listed-so _ _ _ _ _ _ (sym (c .before .listed .ensures) ∙ c .if1 .taken)
+enough c = listed-so _ _ _ _ _ _ (sym (c .before .long-enough .ensures) ∙ c .if1 .taken)
 
 groups-in-requires : tie.Need-groups-in-requires
 groups-in-requires c κs = enough c .levels-there
@@ -33,14 +33,14 @@ returns c =
     let entries = write .before .before in
     let test = entries .before .before in
     let start = test .before .before .before .before .before .before .before .before .before in
-    lists-written (lent start) _ (sym (test .before .listed .ensures) ∙ test .if1 .taken)
+    lists-written (lent start) _ (sym (test .before .long-enough .ensures) ∙ test .if1 .taken)
     (write .write-sheet .ensures .0) (write .write-sheet .ensures .1 .0) (write .write-sheet .ensures .1 .1 .0)
     (rw (entries .before .groups-in .ensures, entries .entries-in .ensures))
 
 returns-2 : tie.Need-returns-2
 returns-2 c =
     let start = c .before .before .before .before .before .before .before .before .before in
-    lists-short (lent start) _ (sym (c .before .listed .ensures) ∙ c .if1 .left)
+    lists-short (lent start) _ (sym (c .before .long-enough .ensures) ∙ c .if1 .left)
 
 pub write-lists-spec : {M : Type 1} → statement M
 write-lists-spec =

@@ -5,7 +5,7 @@ use Prim.Native.Nat.{_≤_, _-_}
 use native.Mathlib.Omega.{arith}
 use borrow.Author.Needs.{needs}
 use lib.ListN.{length, take, getD}
-use lib.Seq.{length-take-le, getD-take}
+use lib.Seq.{getD-take}
 use Rattle.theory.proofs.Padding.{getD-any}
 use Rattle.sheet.specs.Held.{noGroup}
 use Rattle.sheet.specs.Typed.{SheetTyped}
@@ -13,11 +13,11 @@ use Rattle.sheet.specs.declared.held.Action.the-variants.{Count}
 use Rattle.sheet.specs.declared.held.Group.{Group}
 use Rattle.sheet.specs.declared.held.Entry.{Entry}
 use Rattle.sheet.specs.declared.held.Sheet.{Sheet}
-use Rattle.sheet.proofs.Typed.{sheet-typed}
+use Rattle.sheet.proofs.Typed.{sheet-typed, entries-there}
 use Rattle.sheet.proofs.Putting.{puts-then}
-use Rattle.encoding.specs.Written.{entryBytes, commandsBytes}
+use Rattle.encoding.specs.SheetBytes.{entryBytes, commandsBytes}
 use Rattle.encoding.specs.Faults.{first, entryNumber, commandsNumber}
-use Rattle.encoding.specs.Laying.{Lays}
+use Rattle.encoding.specs.Lays.{Lays}
 use Rattle.encoding.proofs.Pieces.{number-end}
 use Rattle.encoding.proofs.ByTests.{commands-many, commands-first, entry-stray}
 use Rattle.encoding.proofs.Lays.{lays-refused, lays-put, lays-named}
@@ -50,7 +50,7 @@ first-is l = commands-first _ (few l)
 
 -- as many commands as are counted are there
 all-there : (l : tie.At-loop Inv-loop μ-loop) → length (take (held l .count) (held l .entries)) ≡ held l .count
-all-there l = length-take-le _ _ (omega (arith, few l, typed l .long))
+all-there l = entries-there (held l) (typed l) (few l)
 
 -- what stands for an element past the end
 abbrev no-group : Group
@@ -71,7 +71,7 @@ laid-now c =
     let h = held l in
     let e = getD (h .entries) (l .loop .i) none in
     let below = judged .if2 .left in
-    let room = typed l .room in
+    let room = typed l .groups-long in
     rw (getD-take (h .count) (h .entries) (l .loop .i) none (test .loop-test .taken))
     (lays-named (h .groups) e (judged .before .wide .result) no-group (judged .before .wide .ensures) below (omega (arith, start l .pre .1 .0)) (c .put-command .ensures))
 
@@ -127,7 +127,7 @@ put-command-requires c κs =
     let count = l .before .before .before .put-little .ensures in
     let row = l .loop .inv .row in
     let small = start l .pre .1 in
-    let any = getD-any (held l .groups .list) (judged .before .wide .result) no-group noGroup (omega (arith, small .0, judged .if2 .left, typed l .room)) in (
+    let any = getD-any (held l .groups .list) (judged .before .wide .result) no-group noGroup (omega (arith, small .0, judged .if2 .left, typed l .groups-long)) in (
       omega (arith, start l .pre .0, few l, test .loop-test .taken, count .long, number-end 2 _ count, row .put .long, row .short),
       rw any (small .1 _ (judged .if2 .left)),
     )

@@ -5,14 +5,14 @@ use Prim.Native.Nat.{_≤_, _-_}
 use native.Mathlib.Omega.{arith}
 use borrow.Author.Needs.{needs}
 use lib.ListN.{length, take, getD}
-use lib.Seq.{length-take-le, getD-take}
+use lib.Seq.{getD-take}
 use Rattle.sheet.specs.declared.held.Group.{Group}
 use Rattle.sheet.specs.declared.held.Groups.{Groups}
-use Rattle.sheet.proofs.Typed.{groups-room}
+use Rattle.sheet.proofs.Typed.{groups-room, groups-there}
 use Rattle.sheet.proofs.Putting.{puts-then}
-use Rattle.encoding.specs.Written.{groupBytes, groupsBytes}
+use Rattle.encoding.specs.SheetBytes.{groupBytes, groupsBytes}
 use Rattle.encoding.specs.Faults.{first, groupNumber, groupsNumber}
-use Rattle.encoding.specs.Laying.{Lays}
+use Rattle.encoding.specs.Lays.{Lays}
 use Rattle.encoding.proofs.Pieces.{number-end}
 use Rattle.encoding.proofs.ByTests.{groups-none, groups-many, groups-first}
 use Rattle.encoding.proofs.Lays.{lays-refused, lays-put}
@@ -41,7 +41,7 @@ first-is l = groups-first _ (l .before .before .before .before .before .before .
 
 -- as many groups as are counted are there
 all-there : (l : tie.At-loop Inv-loop μ-loop) → length (take (counted l .count) (counted l .list)) ≡ counted l .count
-all-there l = length-take-le _ _ (omega (arith, few l, groups-room (counted l) _ (start l .good .1 .0)))
+all-there l = groups-there (counted l) (groups-room (counted l) _ (start l .good .1 .0)) (few l)
 
 -- what stands for an element past the end
 abbrev none : Group

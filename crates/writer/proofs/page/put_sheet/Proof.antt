@@ -2,7 +2,7 @@
 use mathlib.Core.Path.{sym, _∙_}
 use native.Mathlib.Omega.{arith}
 use Rattle.theory.proofs.Refusal.{orElse-refused}
-use Rattle.encoding.specs.Written.{sheetBytes}
+use Rattle.encoding.specs.SheetBytes.{sheetBytes}
 use Rattle.encoding.specs.Faults.{groupsNumber, commandsNumber, sheetNumber}
 use Rattle.sheet.proofs.Typed.{sheet-typed}
 use Rattle.encoding.proofs.Accepted.{groups-taken, group-at}
@@ -32,7 +32,7 @@ put-commands-requires c κs =
     let s = put .before .before .before .before in
     let none = c .before .if1 .left in
     let room = put .put-groups .ensures .put none .long in
-    let list = sheet-typed (s .args .sheet) _ (s .good .1 .0) .room in
+    let list = sheet-typed (s .args .sheet) _ (s .good .1 .0) .groups-long in
     let t = groups-taken _ (sym (put .put-groups .ensures .numbered) ∙ none) in
     (omega (arith, put .put-groups .ensures .short none), (t .few, λ g h. group-at _ list t g h .few))
 

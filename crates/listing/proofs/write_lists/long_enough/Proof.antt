@@ -1,4 +1,4 @@
--- `listing::write_lists::listed` meets its contract: a quotient is compared where the meaning has a product. Assumes nothing.
+-- `listing::write_lists::long_enough` meets its contract: a quotient is compared where the meaning has a product. Assumes nothing.
 use mathlib.Core.Path.{_∙_}
 use mathlib.Core.Bool.{and-false}
 use Prim.Native.Nat.{_*_}
@@ -6,8 +6,8 @@ use native.Mathlib.Omega.{arith}
 use borrow.Author.Tests.{le-leb, lt-leb}
 use lib.Dec.{leb}
 use Rattle.listing.proofs.Listing.{quotient-test}
-use Rattle.listing.proofs.write_lists.listed.Statement.{statement}
-use Rattle.listing.proofs.write_lists.listed.Tie as tie
+use Rattle.listing.proofs.write_lists.long_enough.Statement.{statement}
+use Rattle.listing.proofs.write_lists.long_enough.Tie as tie
 
 returns : tie.Need-returns
 returns c =
@@ -34,5 +34,5 @@ returns-4 c =
       le-leb (2 * a .kinds) (a .numbers) (omega (arith, c .if3 .left)),
     )
 
-pub listed-spec : {M : Type 1} → statement M
-listed-spec = tie.close (tie.spec returns returns-2 returns-3 returns-4)
+pub long-enough-spec : {M : Type 1} → statement M
+long-enough-spec = tie.close (tie.spec returns returns-2 returns-3 returns-4)

@@ -14,6 +14,6 @@ pub record Lays (number most : ℕ) (before : List ℕ) (at : ℕ) (after : List
   pub put : r .number ≡ 0 → Puts before at after (r .end) xs
   pub short : r .number ≡ 0 → r .end ≤ at + most
 
--- no group that is counted has more than twenty cells
+-- as many groups as a sheet can have, and none that is counted has more than twenty cells
 abbrev pub SmallGroups : Groups → Type 0
 SmallGroups groups = (groups .count ≤ 64) × ((g : ℕ) → g < groups .count → getD (groups .list) g noGroup .n ≤ 20)

@@ -18,7 +18,7 @@ use Rattle.sheet.specs.declared.held.Sheet.{Sheet}
 use Rattle.writer.specs.Answers.{writeAnswer, writtenOn}
 use Rattle.writer.specs.declared.answers.Written.{Written}
 
-pub record Lists : Type 0 where
+pub record LentLists : Type 0 where
   pub sizes : List ℕ
   pub levels : List ℕ
   pub kinds : List ℕ
@@ -26,7 +26,7 @@ pub record Lists : Type 0 where
   pub numbers : List ℕ
   pub names : List ℕ
 
-abbrev pub lists : List ℕ → List ℕ → List ℕ → List ℕ → List ℕ → List ℕ → Lists
+abbrev pub lists : List ℕ → List ℕ → List ℕ → List ℕ → List ℕ → List ℕ → LentLists
 lists sizes levels kinds groups numbers names =
     record { sizes = sizes; levels = levels; kinds = kinds; groups = groups; numbers = numbers; names = names }
 
@@ -64,33 +64,35 @@ entryAt kinds groups numbers names i = record {
   target = record { n = getD numbers (2 * i) 0; cells = rowAt 20 i names };
 }
 
--- a row of `room` places that holds what f makes of each index below a count. A count that is too high is held without what it counts: it is sheet
+-- how much of what is counted is held: all, or nothing of more than there is room for, which is sheet whatever it is
 abbrev pub within : ℕ → ℕ → ℕ
 within room count = cond (leb count room) count 0
 
-abbrev pub rows : {A : Type 0} → ℕ → A → (ℕ → A) → ℕ → List A
-rows room z f count = padded room z (map f (namesFrom 0 (within room count)))
+-- a row of `room` places with what f makes of each index that is held, and z past them
+abbrev pub rowOf : {A : Type 0} → ℕ → A → (ℕ → A) → ℕ → List A
+rowOf room z f count = padded room z (map f (namesFrom 0 (within room count)))
 
 -- "from groups and commands held in memory": the sheet that the lists hold
-unfoldable pub heldIn : Lists → Sheet
+unfoldable pub heldIn : LentLists → Sheet
 heldIn l = record {
-  groups = record { count = length (l .sizes); list = rows 64 noGroup (groupAt (l .sizes) (l .levels)) (length (l .sizes)) };
+  groups = record { count = length (l .sizes); list = rowOf 64 noGroup (groupAt (l .sizes) (l .levels)) (length (l .sizes)) };
   count = length (l .kinds);
-  entries = rows 1000 noEntry (entryAt (l .kinds) (l .groups) (l .numbers) (l .names)) (length (l .kinds));
+  entries = rowOf 1000 noEntry (entryAt (l .kinds) (l .groups) (l .numbers) (l .names)) (length (l .kinds));
 }
 
 -- are the lists long enough? By their lengths
-abbrev pub listed : ℕ → ℕ → ℕ → ℕ → ℕ → ℕ → Bool
-listed sizes levels kinds groups numbers names = leb (20 * sizes) levels && leb kinds groups && leb (2 * kinds) numbers && leb (20 * kinds) names
+abbrev pub longEnough : ℕ → ℕ → ℕ → ℕ → ℕ → ℕ → Bool
+longEnough sizes levels kinds groups numbers names = leb (20 * sizes) levels && leb kinds groups && leb (2 * kinds) numbers && leb (20 * kinds) names
 
 -- a list that is too short for what the others say is fit
-unfoldable pub listsNumber : Lists → ℕ
+unfoldable pub listsNumber : LentLists → ℕ
 listsNumber l =
-    cond (listed (length (l .sizes)) (length (l .levels)) (length (l .kinds)) (length (l .groups)) (length (l .numbers)) (length (l .names))) done fit
+    cond (longEnough (length (l .sizes)) (length (l .levels)) (length (l .kinds)) (length (l .groups)) (length (l .numbers)) (length (l .names))) done fit
 
 -- it comes before all others, since what a list lacks cannot be judged
-unfoldable pub listsAnswer : Lists → ℕ → Written
-listsAnswer l room = given (listsNumber l) (writeAnswer (heldIn l) room) (record { number = fit; length = 0 })
+unfoldable pub listsAnswer : LentLists → ℕ → Written
+listsAnswer l room = given (listsNumber l) (writeAnswer (heldIn l) room) (record { number = listsNumber l; length = 0 })
 
-unfoldable pub listsOn : Lists → List ℕ → List ℕ
+-- refused, "no change in any lent list"
+unfoldable pub listsOn : LentLists → List ℕ → List ℕ
 listsOn l out = given (listsNumber l) (writtenOn (heldIn l) out) out
