@@ -158,6 +158,19 @@ static int unwritten(held h, size_t room, uint8_t number) {
     return answer.number == number && answer.length == 0 && memcmp(out, blank, sizeof out) == 0;
 }
 
+/* The example of the header's comment, as it stands there. */
+static tm_written header_example(uint8_t *written) {
+    size_t sizes[1] = {3};
+    uint16_t levels[1][TM_CELLS] = {{3, 1, 2}};
+    uint8_t kinds[3] = {1, 2, 3}, groups[3] = {0, 0, 0};
+    uint64_t numbers[3][2] = {{4}, {3}, {3, 3}};
+    uint8_t names[3][TM_CELLS] = {{0}, {3, 1, 2}};
+    uint8_t out[TM_SHEET_BYTES];
+    tm_written sheet = tm_write_sheet(sizes, 1, levels[0], TM_CELLS, kinds, 3, groups, 3, numbers[0], 6, names[0], 3 * TM_CELLS, out, sizeof out);
+    memcpy(written, out, sheet.length);
+    return sheet;
+}
+
 static void check_writing(void) {
     uint8_t out[64], blank[64];
     memset(out, 'x', sizeof out);
@@ -182,19 +195,6 @@ static void check_writing(void) {
     unseen.numbers[1] = unseen.numbers[3] = 9;
     unseen.names[0] = unseen.names[2 * TM_CELLS] = 9;
     CHECK(write_held(unseen, out, sizeof out).length == sizeof sheet && memcmp(out, sheet, sizeof sheet) == 0);
-}
-
-/* The example of the header's comment, as it stands there. */
-static tm_written header_example(uint8_t *written) {
-    size_t sizes[1] = {3};
-    uint16_t levels[1][TM_CELLS] = {{3, 1, 2}};
-    uint8_t kinds[3] = {1, 2, 3}, groups[3] = {0, 0, 0};
-    uint64_t numbers[3][2] = {{4}, {3}, {3, 3}};
-    uint8_t names[3][TM_CELLS] = {{0}, {3, 1, 2}};
-    uint8_t out[TM_SHEET_BYTES];
-    tm_written sheet = tm_write_sheet(sizes, 1, levels[0], TM_CELLS, kinds, 3, groups, 3, numbers[0], 6, names[0], 3 * TM_CELLS, out, sizeof out);
-    memcpy(written, out, sheet.length);
-    return sheet;
 }
 
 /* "with length 0 the address is not used and may be NULL" */
