@@ -9,9 +9,9 @@ use lib.Dec.{leb, ltb}
 use lib.ListN.{length, getD, take, length-map, List·getD-map}
 use lib.Seq.{length-take-le, getD-take}
 use Rattle.theory.specs.Lists.{Every}
-use Rattle.theory.specs.Reasons.{sized}
+use Rattle.theory.specs.Refusal.{sizeOf}
 use Rattle.theory.specs.Levels.{tied}
-use Rattle.theory.proofs.Refusal.{orElse-done}
+use Rattle.theory.proofs.Refusal.{orElse-done, size-range}
 use Rattle.sheet.specs.Held.{noGroup, noEntry, levelsOf, groupsIn}
 use Rattle.sheet.specs.Typed.{GroupTyped, SheetTyped}
 use Rattle.sheet.specs.declared.held.Group.{Group}
@@ -34,9 +34,9 @@ pub record GroupTaken (g : Group) : Type 0 where
 group-taken : (g : Group) → groupNumber g ≡ 0 → GroupTaken g
 unfolding groupNumber
 group-taken g z =
-    let size = passed (sized (g .n)) (λ e. omega arith) z in
-    let range = and-eq-true-iff (leb 2 (g .n)) (leb (g .n) 20) .0 (size .0) in
-    record { some = leb-true 2 (g .n) (range .0); few = leb-true (g .n) 20 (range .1); untied = unmet (tied (levelsOf g)) (λ e. omega arith) (size .1) }
+    let judged = orElse-done (sizeOf (g .n)) _ z in
+    let range = size-range (g .n) (judged .0) in
+    record { some = range .0; few = range .1; untied = unmet (tied (levelsOf g)) (λ e. omega arith) (judged .1) }
 
 pub record GroupsTaken (gs : Groups) : Type 0 where
   pub some : 1 ≤ gs .count

@@ -68,11 +68,13 @@ group-judges s pre post g e ok =
     let here : s ≡ pre ++ (a ++ (b ++ post)) = e ∙ simp append-assoc in
     let size = number-reads 1 s pre (b ++ post) n here (ok .0) in
     let row = numbers-read 2 L (every-take (λ l. l < 2 ^ 16) n (g .levels) (ok .1 .bits)) s (pre ++ a) post (here ∙ simp append-assoc) in
-    rw size (verdict-check (sized n) missized (λ yes.
-    let few = leb-true n 20 (and-eq-true-iff (leb 2 n) (leb n 20) .0 yes .1) in
+    rw size (by-test (sized n)
+    (λ fits.
+    let few = leb-true n 20 (and-eq-true-iff (leb 2 n) (leb n 20) .0 fits .1) in
     let long : length L ≡ n = length-take-le n (g .levels) (omega (arith, ok .1 .long, few)) in
     let read = rw (long, append-assoc) at row in
-    rw read (by-test (levels.tied L) (λ t. rw t (verdict-fault tied refl)) (λ t. rw t (verdict-got refl)))))
+    rw (fits, read) (by-test (levels.tied L) (λ t. rw t (verdict-fault tied refl)) (λ t. rw t (verdict-got refl))))
+    (λ out. rw out (verdict-fault missized refl)))
 
 -- ---- a command
 

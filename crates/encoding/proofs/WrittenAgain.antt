@@ -12,7 +12,6 @@ use lib.Seq.{drop-drop, drop-length, drop-at, take-at, take-append-seam}
 use Rattle.theory.specs.Lists.{Every}
 use Rattle.theory.specs.Reasons.{sized}
 use Rattle.theory.specs.Levels.{tied, readNumber}
-use Rattle.theory.proofs.Refusal.{readable}
 use Rattle.permutation.specs.Records.{listOf, recordOf}
 use Rattle.permutation.proofs.Records.{zeros-all}
 use Rattle.sheet.specs.Bytes.{Got, got, many, little, number, bytesOf}
@@ -81,8 +80,8 @@ group-spells s bytes at L end e =
     (rw (group-levels (row .0)) (stands-then count (many-spells s (number 2 s) (bytesOf 2) (number-spells s bytes 2) n (one .1) (row .0) (row .1) (row .2))))
 
 group-none : (L : List ℕ) → readNumber L ≡ 0 → groupNumber (groupOf L) ≡ 0
-unfolding groupNumber
-group-none L z = let r = readable {L = L} z in rw (group-levels L, le-leb 2 (length L) (r .few), le-leb (length L) 20 (r .many), r .untied)
+unfolding groupNumber readNumber
+group-none L z = rw (group-levels L) z
 
 -- ---- a command
 

@@ -5,8 +5,8 @@ use mathlib.Core.List.{List, [], _∷_}
 use Prim.Native.Nat.{ℕ}
 use lib.Dec.{eqb, leb, ltb}
 use lib.ListN.{getD, take, drop}
-use Rattle.theory.specs.Reasons.{done, size, fit, muddle, tie, sheet as ill-formed, sized}
-use Rattle.theory.specs.Refusal.{orElse}
+use Rattle.theory.specs.Reasons.{done, fit, muddle, tie, sheet as ill-formed}
+use Rattle.theory.specs.Refusal.{orElse, sizeOf}
 use Rattle.theory.specs.Levels.{tied}
 use Rattle.permutation.specs.Records.{allZero}
 use Rattle.permutation.specs.declared.answers.Permutation.{Permutation}
@@ -25,7 +25,7 @@ first number (x ∷ xs) = orElse (number x) (first number xs)
 
 -- of a group: "size is judged at the n byte and a tie after the group's last level"
 unfoldable pub groupNumber : Group → ℕ
-groupNumber g = cond (sized (g .n)) (cond (tied (levelsOf g)) tie done) size
+groupNumber g = orElse (sizeOf (g .n)) (cond (tied (levelsOf g)) tie done)
 
 -- of the groups: "count G in one byte, 1 to 64"
 unfoldable pub groupsNumber : Groups → ℕ

@@ -1,8 +1,10 @@
 // One command of the sheet. A kind is added in `put_command`, with a function for its bytes.
-ghost use mathlib.Core.List.{[]};
+ghost use mathlib.Core.Path.{_≡_};
+ghost use mathlib.Core.List.{[], flatMap};
 ghost use Prim.Native.Nat.{_+_, _≤_};
-ghost use lib.ListN.{length};
+ghost use lib.ListN.{length, take};
 ghost use Rattle.permutation.specs.Records.{listOf};
+ghost use Rattle.sheet.specs.Bytes.{bytesOf};
 ghost use Rattle.sheet.specs.Putting.{Puts};
 ghost use Rattle.sheet.specs.declared.held.Action.the-variants.{Count, Rewrite, Store};
 ghost use Rattle.encoding.specs.SheetBytes.{headBytes, actionBytes};
@@ -12,8 +14,8 @@ use super::laid::Laid;
 use super::laid::done;
 use super::laid::refuse;
 use super::little::put_little;
-use super::little::put_names;
 use permutation::answers::Permutation;
+use permutation::cell::wide_digit;
 use permutation::reasons::FIT;
 use permutation::reasons::MUDDLE;
 use permutation::validity::all_zero;
@@ -35,6 +37,20 @@ fn put_count(out: &mut [u8], at: usize, group: u8, k: u32) -> usize
 {
     let body = put_head(out, at, 1, group);
     put_little(out, body, 4, k as u64)
+}
+
+// The first n names of a row, of a byte each. All twenty are put, since a fixed number is faster: what is put next goes over the others.
+fn put_names(out: &mut [u8], at: usize, cells: &[u8; 20], n: usize) -> usize
+    requires { ⌜ (at + 20 ≤ length (now out)) × (n ≤ 20) × (length (now cells) ≡ 20) ⌝ }
+    ensures { λ r. ⌜ Puts (now (out .entry)) at (now (out .exit)) r (flatMap (bytesOf 1) (take n (now (cells .entry)))) ⌝ }
+{
+    let mut end = at;
+    let mut i: usize = 0;
+    while i < 20 {
+        end = put_little(out, end, 1, wide_digit(cells[i]));
+        i += 1;
+    }
+    at + n
 }
 
 // The target is judged here, its n and that 0 stands past it; its names are put as they stand.
@@ -62,7 +78,7 @@ fn put_store(out: &mut [u8], at: usize, group: u8, m: u64, symbol: u64) -> usize
     put_little(out, next, 8, symbol)
 }
 
-// A command on a group of n cells.
+// A command on a group of n cells. For `writer`, which has the room.
 pub fn put_command(
     out: &mut [u8],
     at: usize,

@@ -1,4 +1,4 @@
--- `encoding::little::put_names` meets its contract: the names up to i were put, at the end all twenty, and so the first n. Assumes nothing.
+-- `encoding::commands::put_names` meets its contract: the names up to i were put, at the end all twenty, and so the first n. Assumes nothing.
 use mathlib.Core.Path.{_≡_, sym, ap, _∙_}
 use mathlib.Core.List.{_++_, flatMap}
 use Prim.Native.Nat.{_-_}
@@ -11,8 +11,8 @@ use Rattle.sheet.specs.Bytes.{bytesOf}
 use Rattle.sheet.proofs.Putting.{Row, row-start, row-next, row-end, puts-first}
 use Rattle.encoding.proofs.Numbers.{flatMap-length, flatMap-append}
 use Rattle.encoding.proofs.Pieces.{flatMap-grows, number-end}
-use Rattle.encoding.proofs.little.put_names.Statement.{statement}
-use Rattle.encoding.proofs.little.put_names.Tie as tie
+use Rattle.encoding.proofs.commands.put_names.Statement.{statement}
+use Rattle.encoding.proofs.commands.put_names.Tie as tie
 
 abbrev Inv-loop : tie.InvT-loop
 Inv-loop out₀ at cells n end₀ i₀ out end i = Row (flatMap (bytesOf 1)) cells 1 out₀ at out end i

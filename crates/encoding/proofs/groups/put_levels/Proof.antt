@@ -1,4 +1,4 @@
--- `encoding::little::put_levels` meets its contract: the levels up to i were put. Assumes nothing.
+-- `encoding::groups::put_levels` meets its contract: the levels up to i were put. Assumes nothing.
 use mathlib.Core.List.{flatMap}
 use Prim.Native.Nat.{_-_}
 use native.Mathlib.Omega.{arith}
@@ -7,8 +7,8 @@ use Rattle.sheet.specs.Bytes.{bytesOf}
 use Rattle.sheet.proofs.Putting.{Row, row-start, row-next, row-end}
 use Rattle.encoding.proofs.Pieces.{flatMap-grows, number-end}
 use borrow.Author.Needs.{needs}
-use Rattle.encoding.proofs.little.put_levels.Statement.{statement}
-use Rattle.encoding.proofs.little.put_levels.Tie as tie
+use Rattle.encoding.proofs.groups.put_levels.Statement.{statement}
+use Rattle.encoding.proofs.groups.put_levels.Tie as tie
 
 abbrev Inv-loop : tie.InvT-loop
 Inv-loop out₀ at levels end₀ i₀ out end i = Row (flatMap (bytesOf 2)) levels 2 out₀ at out end i
