@@ -9,7 +9,7 @@ use Rattle.theory.specs.Refusal.{given}
 use Rattle.theory.specs.Permutation.{row}
 use Rattle.theory.specs.Levels.{highest, readNumber, permutationOf}
 use Rattle.theory.specs.CountUp.{ceilingOf, callNumber}
-use Rattle.theory.proofs.Refusal.{refused, answered, given-done, orElse-refused, orElse-done, Readable, read-done, readable}
+use Rattle.theory.proofs.Refusal.{refused, answered, given-done, given-refused, orElse-refused, orElse-done, Readable, read-done, readable}
 use Rattle.theory.proofs.Refusal.{ceiling-refused, ceiling-done, ceiling-room}
 use Rattle.theory.proofs.Sorting.{permutationOf-length}
 use Rattle.permutation.specs.declared.answers.Permuted.{Permuted}
@@ -19,23 +19,20 @@ use Rattle.charge.specs.declared.judge.Call.{Call}
 use Rattle.charge.specs.Counting.{callJudged}
 use Rattle.charge.specs.Answers.{noPushes, donePushes, pushesOf, readAnswer, placeNumber}
 
--- ---- a job that pushes, by its number: k pushes, which leave the levels L′, or none, and the levels L as they were
+-- ---- a job that pushes, by its number: k pushes, which spend this charge and leave the levels L′, or none, and the levels L as they were
 
-abbrev Answered : ℕ → ℕ → List ℕ → List ℕ → Pushes → List ℕ → Type 0
-Answered why k L L′ a left = (a ≡ pushesOf why k) × (left ≡ given why L′ L)
+abbrev Answered : ℕ → ℕ → ℕ → List ℕ → List ℕ → Pushes → List ℕ → Type 0
+Answered why k charge L L′ a left = (a ≡ pushesOf why k charge) × (left ≡ given why L′ L)
 
-module _ {why : ℕ} (k : ℕ) (L L′ : List ℕ) where
-  pub pushes-refused : {a : Pushes} {number : ℕ} → a ≡ noPushes number → number ≡ why → (number ≡ 0 → ⊥) → Answered why k L L′ a L
-  pushes-refused e is ne = (
-    e ∙ refused (λ number pushes. record { number = number; pushes = pushes }) k 0 is ne,
+module _ {why : ℕ} (k charge : ℕ) (L L′ : List ℕ) where
+  pub pushes-refused : {a : Pushes} {number : ℕ} → a ≡ noPushes number → number ≡ why → (number ≡ 0 → ⊥) → Answered why k charge L L′ a L
+  pushes-refused {number = number} e is ne = (
+    e ∙ rw (← is, given-refused number k 0 ne, given-refused number charge 0 ne),
     refused (λ number left. left) L′ L is ne,
   )
 
-  pub pushes-done : {a : Pushes} {left : List ℕ} → a ≡ donePushes k → why ≡ 0 → left ≡ L′ → Answered why k L L′ a left
-  pushes-done e z is = (
-    e ∙ answered (λ number pushes. record { number = number; pushes = pushes }) k 0 z,
-    is ∙ answered (λ number left. left) L′ L z,
-  )
+  pub pushes-done : {a : Pushes} {left : List ℕ} → a ≡ donePushes k charge → why ≡ 0 → left ≡ L′ → Answered why k charge L L′ a left
+  pushes-done e z is = (e ∙ rw z, is ∙ answered (λ number left. left) L′ L z)
 
 -- ---- the push at place i
 

@@ -1,13 +1,14 @@
--- The cell that stands at a place of the sorted row, and its push on the levels. Assumes nothing.
+-- The cell that stands at a place of the sorted row, its push on the levels, and its jump. Assumes nothing.
 use mathlib.Core.Path.{_≡_, ap, _∙_}
 use mathlib.Core.List.{List}
 use Prim.Native.Nat.{ℕ, _+_, _-_, _≤_}
 use native.Mathlib.Omega.{arith}
-use lib.ListN.{length, set}
+use lib.ListN.{length, getD, set}
 use Rattle.theory.specs.Permutation.{row, cellAt}
-use Rattle.theory.specs.Levels.{highest, permutationOf, pushLevel}
+use Rattle.theory.specs.Levels.{highest, permutationOf, pushLevel, jump}
 use Rattle.theory.proofs.Padding.{row-at}
 use Rattle.theory.proofs.Members.{entry-inside}
+use Rattle.theory.proofs.Reading.{pushed-jump}
 use Rattle.theory.proofs.Sorting.{permutationOf-permutation, permutationOf-length}
 
 -- c is the cell at place i
@@ -28,3 +29,10 @@ placed-cell L i {cells} {c} low high row-is e =
 pub placed-push : {L : List ℕ} {i c t : ℕ} → PlacedCell L i c → t ≡ highest L → set L (c - 1) (t + 1) ≡ pushLevel (cellAt i (permutationOf L)) L
 unfolding pushLevel
 placed-push s e = rw (s .is, e)
+
+-- its jump, by the level that it had
+pub placed-jump : {L : List ℕ} {i c t : ℕ} → PlacedCell L i c → t ≡ highest L
+    → (getD L (c - 1) 0 ≤ t + 1) × (t + 1 - getD L (c - 1) 0 ≡ jump (cellAt i (permutationOf L)) L)
+placed-jump {L} {i} {c} s e =
+    let j = pushed-jump L c (s .low) (s .high) in
+    rw (← s .is) (omega (arith, e, j), omega (arith, e, j))

@@ -34,5 +34,5 @@ pub row-readable : {L : List ℕ} (cs : List ℕ) → ((c : ℕ) → member c cs
 row-readable {L} cs k r = record {
   few = omega (arith, row-length cs L, r .few);
   many = omega (arith, row-length cs L, r .many);
-  untied = reads-untied (reads-row cs k (theory.reading L (r .untied) .reads) .0);
+  untied = reads-untied (reads-row cs k (theory.reading L (r .untied) .reads));
 }

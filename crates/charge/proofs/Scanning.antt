@@ -1,4 +1,4 @@
--- One turn of a walk along levels: is a level among those ahead, is there a tie among them, and which is the highest or the lowest of them? Assumes nothing.
+-- One turn of a walk along levels: is a level among those ahead, is there a tie among them, what is their sum, and which is the highest or the lowest of them? Assumes nothing.
 use mathlib.Core.Path.{_≡_, refl, ap, _∙_}
 use mathlib.Core.Bool.{true, false}
 use mathlib.Core.List.{List, [], _∷_}
@@ -10,6 +10,7 @@ use lib.ListN.{length, getD, drop, drop-of-length-le}
 use lib.Seq.{drop-cons}
 use Rattle.theory.specs.Lists.{member}
 use Rattle.theory.specs.Levels.{highest, lowest, tied}
+use Rattle.theory.specs.Spent.{levelSum}
 
 module _ (L : List ℕ) (i : ℕ) (h : i < length L) where
   ahead : drop i L ≡ getD L i 0 ∷ drop (i + 1) L
@@ -27,6 +28,9 @@ module _ (L : List ℕ) (i : ℕ) (h : i < length L) where
   pub tied-next : member (getD L i 0) (drop (i + 1) L) ≡ false → tied (drop i L) ≡ tied (drop (i + 1) L)
   tied-next e = rw (ahead, e)
 
+  pub sum-next : levelSum (drop i L) ≡ getD L i 0 + levelSum (drop (i + 1) L)
+  sum-next = ap levelSum ahead
+
 -- no level is ahead
 module _ (L : List ℕ) {i : ℕ} (h : length L ≤ i) where
   pub member-end : (x : ℕ) → member x (drop i L) ≡ false
@@ -34,6 +38,9 @@ module _ (L : List ℕ) {i : ℕ} (h : length L ≤ i) where
 
   pub tied-end : tied (drop i L) ≡ false
   tied-end = rw (drop-of-length-le L h)
+
+  pub sum-end : levelSum (drop i L) ≡ 0
+  sum-end = ap levelSum (drop-of-length-le L h)
 
 -- of no level, and of the last
 pub lowest-none : (L : List ℕ) → length L ≡ 0 → 0 ≡ lowest L

@@ -1,4 +1,4 @@
--- What a count-up call is judged by, and what its steps start from. Only inner contracts cite these. Assumes nothing.
+-- What a count-up call is judged by, and what its steps start from and lead to. Only inner contracts cite these. Assumes nothing.
 use mathlib.Core.Path.{_≡_}
 use mathlib.Core.Bool.{false}
 use mathlib.Core.List.{List}
@@ -7,7 +7,8 @@ use lib.ListN.{length}
 use Rattle.theory.specs.Reasons.{maxLevel}
 use Rattle.theory.specs.Permutation.{row}
 use Rattle.theory.specs.Levels.{highest, tied, permutationOf}
-use Rattle.theory.specs.CountUp.{callNumber}
+use Rattle.theory.specs.CountUp.{countUp, callNumber}
+use Rattle.theory.specs.Spent.{chargeOf, countUpPushes}
 use Rattle.theory.specs.Refusal.{given}
 use Rattle.charge.specs.declared.judge.Call.{Call}
 
@@ -23,3 +24,8 @@ pub record Ready (L cells : List ℕ) (top k : ℕ) : Type 0 where
   pub cells-are : cells ≡ row (permutationOf L)
   pub top-is : top ≡ highest L
   pub room : top + k ≤ maxLevel
+
+-- k steps led from L to L′, and spent this charge
+pub record Counted (k : ℕ) (L L′ : List ℕ) (charge : ℕ) : Type 0 where
+  pub levels : L′ ≡ countUp k L
+  pub spent : charge ≡ chargeOf (countUpPushes k L) L

@@ -6,3 +6,4 @@ pub mod judge; // size and tie, the highest and the lowest level, a count-up cal
 pub mod push_level; // one push
 pub mod read; // the permutation of levels
 pub mod sort; // cells sorted by level
+pub mod sum; // the sum of levels

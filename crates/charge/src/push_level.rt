@@ -32,6 +32,8 @@ pub fn push_level(levels: &mut [u16], place: usize) -> Pushes
     let mut cells = [0u8; 20];
     sort_cells(levels, &mut cells);
     let cell = wide(cells[place - 1]);
+    let before = levels[cell - 1];
     levels[cell - 1] = top + 1;
-    done_pushes(1)
+    let jump = top + 1 - before;
+    done_pushes(1, jump as u32)
 }

@@ -12,6 +12,7 @@ use Rattle.theory.specs.Permutation.{IsPermutation, row}
 use Rattle.theory.specs.Levels.{permutationOf, pushLevels, readNumber}
 use Rattle.theory.specs.CountUp.{ceilingOf}
 use Rattle.theory.specs.Rewrite.{rewriteCount, rewritePushes}
+use Rattle.theory.specs.Spent.{chargeOf}
 use Rattle.theory.specs.Claims.{Rewriting}
 use Rattle.theory.proofs.Members.{entry-inside}
 use Rattle.theory.proofs.Sorting.{permutationOf-permutation}
@@ -129,12 +130,12 @@ module _ (L : List ℕ) (target : Permutation) (list : List ℕ) where
   rewrite-fault e fault ne =
       let is = orElse-refused (targetNumber L target (length list)) (ceilingOf L (pushesTo L target)) fault ne in
       let cs : List ℕ = rewritePushes (permutationOf L) (listOf target) in
-      let b = pushes-refused (pushesTo L target) L (pushLevels cs L) e is ne in
+      let b = pushes-refused (pushesTo L target) (chargeOf cs L) L (pushLevels cs L) e is ne in
       (b .0, (b .1, (refused (λ number left. left) (cs ++ drop (pushesTo L target) list) list is ne, λ z. absurd (ne (sym (ap (λ (a : Pushes). a .number) e) ∙ z)))))
 
   -- the answer of r pushes is that of the job where r is its number of pushes, and the list gets their names where it is done
   module _ (j : Judged L target (length list)) (long : length (target .cells) ≡ 20) {r : ℕ} {a : Pushes} {L′ : List ℕ}
-      (k : (a ≡ pushesOf (ceilingOf L r) r) × (L′ ≡ raised L (target .cells) r)) (is : r ≡ pushesTo L target) where
+      (k : (a ≡ pushesOf (ceilingOf L r) r (chargeOf (reverse (take r (target .cells))) L)) × (L′ ≡ raised L (target .cells) r)) (is : r ≡ pushesTo L target) where
     reason-is : rewriteNumber L target (length list) ≡ ceilingOf L r
     unfolding rewriteNumber
     reason-is = rw (j .none, is)
@@ -149,7 +150,7 @@ module _ (L : List ℕ) (target : Permutation) (list : List ℕ) where
     unfolding rewriteAnswer rewriteLevels rewriteList raised names
     all-answered list-is =
         let left : L′ ≡ given (ceilingOf L r) (pushLevels (rewritePushes (permutationOf L) (listOf target)) L) L = k .1 ∙ rw (pushes-are j is) in (
-          k .0 ∙ rw (reason-is, is),
+          k .0 ∙ rw (reason-is, pushes-are j is, is),
           (
             left ∙ rw reason-is,
             (

@@ -11,6 +11,7 @@ use Rattle.theory.specs.Push.{pushes, Places}
 use Rattle.theory.specs.Levels.{permutationOf, pushLevels, readNumber}
 use Rattle.theory.specs.CountUp.{ceilingOf}
 use Rattle.theory.specs.Rewrite.{rewriteCount, rewritePushes}
+use Rattle.theory.specs.Spent.{chargeOf}
 use Rattle.permutation.specs.Records.{listOf, recordNumber}
 use Rattle.theory.specs.Refusal.{given, orElse, sizeOf}
 use Rattle.permutation.specs.declared.answers.Permutation.{Permutation}
@@ -34,9 +35,10 @@ pushesTo L target = rewriteCount (permutationOf L) (listOf target)
 unfoldable pub rewriteNumber : List ℕ → Permutation → ℕ → ℕ
 rewriteNumber L target room = orElse (targetNumber L target room) (ceilingOf L (pushesTo L target))
 
--- "Count up, rewrite and store, when done, give their number of pushes: [..] r"
+-- "Count up, rewrite and store, when done, give their number of pushes: [..] r"; document 02: they "give the total of their jumps"
 unfoldable pub rewriteAnswer : List ℕ → Permutation → ℕ → Pushes
-rewriteAnswer L target room = pushesOf (rewriteNumber L target room) (pushesTo L target)
+rewriteAnswer L target room =
+    pushesOf (rewriteNumber L target room) (pushesTo L target) (chargeOf (rewritePushes (permutationOf L) (listOf target)) L)
 
 -- "The target's cells r, r-1, ..., 1 are pushed."
 unfoldable pub rewriteLevels : List ℕ → Permutation → ℕ → List ℕ

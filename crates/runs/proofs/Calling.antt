@@ -1,5 +1,5 @@
 -- A list of count-up calls: what holds when some of them were made, and demand 3 of the whole. Assumes nothing.
-use mathlib.Core.Path.{_≡_, refl, sym, ap, subst, _∙_}
+use mathlib.Core.Path.{_≡_, refl, sym, ap, ap₂, subst, _∙_}
 use mathlib.Core.Bool.{cond}
 use mathlib.Core.List.{List, [], _∷_, _++_}
 use Prim.Native.Nat.{ℕ, zero, suc, _+_, _≤_, _<_}
@@ -13,11 +13,13 @@ use Rattle.theory.specs.Reasons.{done, fit}
 use Rattle.theory.specs.Levels.{highest, permutationOf}
 use Rattle.theory.specs.CountUp.{callNumber, callPushes, callLevels}
 use Rattle.theory.specs.Run.{stepLevels, afterCalls, callNumbers, stepsDone}
+use Rattle.theory.specs.Spent.{levelSum, callCharge, callsCharge}
 use Rattle.theory.specs.Demand3.{Start, Demand3}
 use Rattle.theory.proofs.Refusal.{refused, answered}
 use Rattle.theory.proofs.FilledRow.{filled-all}
 use Rattle.theory.proofs.InTurn.{InTurn, turn-none, turn-more, turn-left}
 use Rattle.theory.proofs.CallLists.{after-next, done-snoc, numbers-long, after-length, number-at, steps-fit}
+use Rattle.theory.proofs.Spent.{charge-snoc, calls-fit, spending}
 use Rattle.theory.proofs.Demand3.{demand3}
 use Rattle.charge.specs.Answers.{noPushes, donePushes, callAnswer}
 use Rattle.charge.specs.declared.answers.Pushes.{Pushes}
@@ -33,15 +35,16 @@ sum-done (suc i) [] L rest = refl
 sum-done (suc i) (k ∷ ks) L rest = ap (λ (j : ℕ). cond (eqb (callNumber k L) done) k 0 + j) (sum-done i ks (callLevels k L) rest)
 
 -- ---- i of the calls were made
-pub record Made (L ks numbers₀ : List ℕ) (i : ℕ) (levels numbers : List ℕ) (pushes : ℕ) : Type 0 where
+pub record Made (L ks numbers₀ : List ℕ) (i : ℕ) (levels numbers : List ℕ) (pushes charge : ℕ) : Type 0 where
   pub in-turn : InTurn callNumber callLevels (λ (M : List ℕ). M) ks L numbers₀ levels numbers i
   pub pushes-are : pushes ≡ stepsDone (take i ks) L
+  pub charge-is : charge ≡ callsCharge (take i ks) L
 
-pub made-none : {L ks numbers₀ : List ℕ} → length ks ≤ length numbers₀ → Made L ks numbers₀ 0 L numbers₀ 0
-unfolding stepsDone
-made-none room = record { in-turn = turn-none room refl; pushes-are = refl }
+pub made-none : {L ks numbers₀ : List ℕ} → length ks ≤ length numbers₀ → Made L ks numbers₀ 0 L numbers₀ 0 0
+unfolding stepsDone callsCharge
+made-none room = record { in-turn = turn-none room refl; pushes-are = refl; charge-is = refl }
 
-module _ {L ks numbers₀ : List ℕ} {i : ℕ} {levels numbers : List ℕ} {pushes : ℕ} (v : Made L ks numbers₀ i levels numbers pushes) where
+module _ {L ks numbers₀ : List ℕ} {i : ℕ} {levels numbers : List ℕ} {pushes charge : ℕ} (v : Made L ks numbers₀ i levels numbers pushes charge) where
   levels-are : levels ≡ afterCalls (take i ks) L
   unfolding afterCalls
   levels-are = v .in-turn .left
@@ -56,25 +59,34 @@ module _ {L ks numbers₀ : List ℕ} {i : ℕ} {levels numbers : List ℕ} {pus
     next-pushes : pushes + callPushes k levels ≡ stepsDone (take (i + 1) ks) L
     next-pushes = rw (add-one i, take-suc ks i 0 more, v .pushes-are, levels-are) (sym (done-snoc (take i ks) L k))
 
+    next-charge : charge + callCharge k levels ≡ callsCharge (take (i + 1) ks) L
+    next-charge = rw (add-one i, take-suc ks i 0 more, v .charge-is, levels-are) (sym (charge-snoc (take i ks) L k))
+
     -- by the answer of the call, and the levels that it left
     pub made-more : (answer : Pushes) (after : List ℕ) → answer ≡ callAnswer levels k → after ≡ callLevels k levels
-        → (pushes + answer .pushes ≤ 65535) × Made L ks numbers₀ (i + 1) after (set numbers i (answer .number)) (pushes + answer .pushes)
-    unfolding callAnswer callPushes
+        → (pushes + answer .pushes ≤ 65535) × (charge + answer .charge ≤ 1310700)
+        × Made L ks numbers₀ (i + 1) after (set numbers i (answer .number)) (pushes + answer .pushes) (charge + answer .charge)
+    unfolding callAnswer callPushes callCharge
     made-more answer after e f = rw (e, f) (
       rw next-pushes (steps-fit (take (i + 1) ks) L),
+      rw next-charge (calls-fit (take (i + 1) ks) L),
       record {
         in-turn = turn-more (v .in-turn) 0 more (ap (callNumber k) (v .in-turn .left)) (ap (callLevels k) (v .in-turn .left));
         pushes-are = next-pushes;
+        charge-is = next-charge;
       },
     )
 
 -- what the contract says of an answer, and of the levels and the numbers that are left
 abbrev Answered : List ℕ → List ℕ → List ℕ → Pushes → List ℕ → List ℕ → Type 0
 Answered L ks numbers₀ a levels numbers =
-    (a ≡ callsAnswer L ks numbers₀) × ((levels ≡ calledLevels L ks numbers₀) × (numbers ≡ calledNumbers L ks numbers₀))
+    (a ≡ callsAnswer L ks numbers₀)
+    × ((levels ≡ calledLevels L ks numbers₀)
+    × ((numbers ≡ calledNumbers L ks numbers₀) × (levelSum levels ≡ levelSum L + a .charge)))
 
 -- ---- all calls were made
-module _ {L ks numbers₀ : List ℕ} {i : ℕ} {levels numbers : List ℕ} {pushes : ℕ} (v : Made L ks numbers₀ i levels numbers pushes) (all : length ks ≤ i) where
+module _ {L ks numbers₀ : List ℕ} {i : ℕ} {levels numbers : List ℕ} {pushes charge : ℕ} (v : Made L ks numbers₀ i levels numbers pushes charge)
+    (all : length ks ≤ i) where
   levels-all : levels ≡ afterCalls ks L
   unfolding afterCalls
   levels-all = turn-left (v .in-turn) all
@@ -86,12 +98,23 @@ module _ {L ks numbers₀ : List ℕ} {i : ℕ} {levels numbers : List ℕ} {pus
   pushes-all : pushes ≡ stepsDone ks L
   pushes-all = v .pushes-are ∙ rw (take-all i ks all)
 
-  pub called-done : {a : Pushes} → a ≡ donePushes pushes → Answered L ks numbers₀ a levels numbers
+  charge-all : charge ≡ callsCharge ks L
+  charge-all = v .charge-is ∙ rw (take-all i ks all)
+
+  pub called-done : {a : Pushes} → a ≡ donePushes pushes charge → Answered L ks numbers₀ a levels numbers
   unfolding callsAnswer calledLevels calledNumbers
   called-done e =
       let fits : callsNumber ks numbers₀ ≡ 0 = rw (le-leb (length ks) (length numbers₀) (v .in-turn .answered .room)) in
-      let b = pushes-done (stepsDone ks L) L (afterCalls ks L) (e ∙ ap donePushes pushes-all) fits levels-all in
-      (b .0, (b .1, numbers-all ∙ answered (λ number left. left) (callNumbers ks L ++ drop (length ks) numbers₀) numbers₀ fits))
+      let b = pushes-done (stepsDone ks L) (callsCharge ks L) L (afterCalls ks L) (e ∙ ap₂ donePushes pushes-all charge-all) fits levels-all in (
+        b .0,
+        (
+          b .1,
+          (
+            numbers-all ∙ answered (λ number left. left) (callNumbers ks L ++ drop (length ks) numbers₀) numbers₀ fits,
+            rw (e, levels-all, charge-all) (spending L .calls ks),
+          ),
+        ),
+      )
 
   pub calls-of : 2 ≤ length L → Start (length L) L → CallsOf L ks levels numbers pushes
   calls-of few start = rw (levels-all, pushes-all) (record {
@@ -133,5 +156,5 @@ unfolding callsAnswer calledLevels calledNumbers
 called-refused L ks numbers₀ e short =
     let is : fit ≡ callsNumber ks numbers₀ = rw (lt-leb (length ks) (length numbers₀) short) in
     let ne : fit ≡ 0 → ⊥ = λ z. omega arith in
-    let b = pushes-refused (stepsDone ks L) L (afterCalls ks L) e is ne in
-    (b .0, (b .1, refused (λ number left. left) (callNumbers ks L ++ drop (length ks) numbers₀) numbers₀ is ne))
+    let b = pushes-refused (stepsDone ks L) (callsCharge ks L) L (afterCalls ks L) e is ne in
+    (b .0, (b .1, (refused (λ number left. left) (callNumbers ks L ++ drop (length ks) numbers₀) numbers₀ is ne, rw e (omega arith))))

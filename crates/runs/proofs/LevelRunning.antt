@@ -11,10 +11,12 @@ use Rattle.theory.specs.Rank.{rank}
 use Rattle.theory.specs.Levels.{highest, topLessBottom, Gapless, readNumber, permutationOf, ReadsAs, pushLevel, jump}
 use Rattle.theory.specs.CountUp.{nextCell, countUp, ceilingOf, callNumber, callLevels}
 use Rattle.theory.specs.Run.{steps, stepLevels}
+use Rattle.theory.specs.Spent.{levelSum, callCharge}
 use Rattle.theory.specs.Demand3.{Demand3}
 use Rattle.theory.proofs.Sorting.{permutationOf-permutation, reads-permutationOf, reads-untied, reads-is}
 use Rattle.theory.proofs.LevelRun.{run-length, run-reads, run-highest, next-top, countUp-run}
 use Rattle.theory.proofs.Calls.{calling}
+use Rattle.theory.proofs.Spent.{spending}
 use Rattle.theory.proofs.Demand3.{demand3}
 use Rattle.ranking.specs.Answers.{rankAnswer}
 use Rattle.permutation.specs.declared.answers.Permutation.{Permutation}
@@ -45,7 +47,7 @@ module _ (L : List ℕ) (k : ℕ) (g : callNumber k L ≡ 0) where
   few : 2 ≤ length L
   few = readable (past .0) .few
 
-  many : length L ≤ 20
+  pub many : length L ≤ 20
   many = readable (past .0) .many
 
   reads : ReadsAs L (permutationOf L)
@@ -128,52 +130,63 @@ module _ (L : List ℕ) (k : ℕ) (g : callNumber k L ≡ 0) where
   largest-bound gapless zero = omega arith
   largest-bound gapless (suc j) = omega (arith, largest-bound gapless j, d .jumps L refl gapless j)
 
-  -- ---- all k steps were done; p is read from the levels, and r is its rank
-  module _ (levels counts : List ℕ) (wide large : ℕ) (v : RunningLevels L k levels counts wide large) (p : Permutation) (r : ℕ)
-      (stands : p ≡ readAnswer levels .permutation) (ranks : r ≡ rankAnswer p .rank) where
-    still : Readable levels
-    still = rw (v .levels-are)
-        (let size = long k in
-        record { few = omega (arith, few); many = omega (arith, many); untied = reads-untied (reads-after k) })
-
-    is : r ≡ rank (length L) (permutationOf levels)
-    is =
-        ranks ∙ ap (λ (q : Permutation). rankAnswer q .rank) (stands ∙ reading-record still)
-        ∙ ap (λ (a : Ranked). a .rank) (ranked-record (length levels) (permutationOf levels) (still .few) (still .many) (permutationOf-permutation levels))
-        ∙ ap (λ (n : ℕ). rank n (permutationOf levels)) (levels-long k levels counts wide large v)
-
+  -- ---- all k steps were done
+  module _ (levels counts : List ℕ) (wide large : ℕ) (v : RunningLevels L k levels counts wide large) where
     counted-up : levels ≡ countUp k L
     counted-up = v .levels-are ∙ sym (countUp-run (length L) few k L (permutationOf L) refl reads)
 
     pub levels-left : levels ≡ callLevels k L
     levels-left = counted-up ∙ sym (calling k L .counted g .1)
 
-    abbrev answer : RanLevels
-    answer = record { number = 0; pushes = k; counts = counts; widest = wide; largest = large; rank = r }
+    still : Readable levels
+    still = rw (v .levels-are)
+        (let size = long k in
+        record { few = omega (arith, few); many = omega (arith, many); untied = reads-untied (reads-after k) })
 
-    pub ran-levels-left : answer ≡ levelRunAnswer L k
-    unfolding levelRunAnswer
-    ran-levels-left = rw (g, calling k L .counted g .0, v .counted, v .widest-is, v .largest-is, is, counted-up)
+    -- by the sums of the levels before and after
+    module _ (before after : ℕ) (before-is : before ≡ levelSum L) (after-is : after ≡ levelSum levels) where
+      pub grown : after ≡ before + callCharge k L
+      grown = after-is ∙ ap levelSum levels-left ∙ spending L .call k ∙ ap (λ (s : ℕ). s + callCharge k L) (sym before-is)
 
-    pub levels-of : LevelsOf L k levels answer
-    levels-of = record {
-      pushes = refl;
-      levels = counted-up;
-      stepped = v .levels-are;
-      highest-level = ap highest (v .levels-are) ∙ highest-after k;
-      start = start;
-      run =
-          run-of (length L) few (permutationOf L) start k (permutationOf levels) r (countIn counts)
-          (ap permutationOf (v .levels-are) ∙ reads-is (reads-after k)) is (counts-at (length L) few many (permutationOf L) k counts (v .counted));
-      gap = λ gapless. rw (v .widest-is) (widest-bound gapless k);
-      jumps = λ gapless. rw (v .largest-is) (largest-bound gapless k);
-    }
+      pub levels-spent : levelSum levels ≡ levelSum L + (after - before)
+      levels-spent = omega (arith, before-is, after-is, grown)
+
+      -- p is read from the levels, and r is its rank
+      module _ (p : Permutation) (r : ℕ) (stands : p ≡ readAnswer levels .permutation) (ranks : r ≡ rankAnswer p .rank) where
+        is : r ≡ rank (length L) (permutationOf levels)
+        is =
+            ranks ∙ ap (λ (q : Permutation). rankAnswer q .rank) (stands ∙ reading-record still)
+            ∙ ap (λ (a : Ranked). a .rank) (ranked-record (length levels) (permutationOf levels) (still .few) (still .many) (permutationOf-permutation levels))
+            ∙ ap (λ (n : ℕ). rank n (permutationOf levels)) (levels-long k levels counts wide large v)
+
+        abbrev answer : RanLevels
+        answer = record { number = 0; pushes = k; charge = after - before; counts = counts; widest = wide; largest = large; rank = r }
+
+        pub ran-levels-left : answer ≡ levelRunAnswer L k
+        unfolding levelRunAnswer
+        ran-levels-left =
+            let charge : after - before ≡ callCharge k L = omega (arith, grown) in
+            rw (charge, g, calling k L .counted g .0, v .counted, v .widest-is, v .largest-is, is, counted-up)
+
+        pub levels-of : LevelsOf L k levels answer
+        levels-of = record {
+          pushes = refl;
+          levels = counted-up;
+          stepped = v .levels-are;
+          highest-level = ap highest (v .levels-are) ∙ highest-after k;
+          start = start;
+          run =
+              run-of (length L) few (permutationOf L) start k (permutationOf levels) r (countIn counts)
+              (ap permutationOf (v .levels-are) ∙ reads-is (reads-after k)) is (counts-at (length L) few many (permutationOf L) k counts (v .counted));
+          gap = λ gapless. rw (v .widest-is) (widest-bound gapless k);
+          jumps = λ gapless. rw (v .largest-is) (largest-bound gapless k);
+        }
 
 -- a run that is refused
 pub ran-levels-refused : (L : List ℕ) (k number : ℕ) → number ≡ callNumber k L → (number ≡ 0 → ⊥)
-    → (_≡_ {A = RanLevels} (record { number = number; pushes = 0; counts = replicate 20 0; widest = 0; largest = 0; rank = 0 }) (levelRunAnswer L k))
+    → (_≡_ {A = RanLevels} (record { number = number; pushes = 0; charge = 0; counts = replicate 20 0; widest = 0; largest = 0; rank = 0 }) (levelRunAnswer L k))
     × (L ≡ callLevels k L)
 unfolding levelRunAnswer
 ran-levels-refused L k number e h =
     let u = calling k L .unchanged (λ z. h (e ∙ z)) in
-    (rw (u .0, ← e, ne-eqb number 0 h), sym (u .1))
+    (rw (u .0, spending L .refused k (λ z. h (e ∙ z)), ← e, ne-eqb number 0 h), sym (u .1))

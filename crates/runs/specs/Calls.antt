@@ -11,6 +11,7 @@ use Rattle.theory.specs.Rank.{rank}
 use Rattle.theory.specs.Levels.{highest, topLessBottom, Gapless, permutationOf, jump}
 use Rattle.theory.specs.CountUp.{countUp, callLevels}
 use Rattle.theory.specs.Run.{steps, pushCount, afterCalls, callNumbers, stepsDone}
+use Rattle.theory.specs.Spent.{callsCharge}
 use Rattle.theory.specs.Demand3.{Done, Refused}
 use Rattle.theory.specs.Refusal.{given}
 use Rattle.charge.specs.Answers.{pushesOf}
@@ -22,9 +23,9 @@ use Rattle.runs.specs.LevelSteps.{levelsAfter}
 abbrev pub callsNumber : List ℕ → List ℕ → ℕ
 callsNumber ks numbers = cond (leb (length ks) (length numbers)) done fit
 
--- the pushes of all calls together
+-- the pushes of all calls together, and their charge
 unfoldable pub callsAnswer : List ℕ → List ℕ → List ℕ → Pushes
-callsAnswer L ks numbers = pushesOf (callsNumber ks numbers) (stepsDone ks L)
+callsAnswer L ks numbers = pushesOf (callsNumber ks numbers) (stepsDone ks L) (callsCharge ks L)
 
 -- "Each count-up call gets the list as the last one left it"
 unfoldable pub calledLevels : List ℕ → List ℕ → List ℕ → List ℕ

@@ -8,6 +8,7 @@ use Rattle.theory.specs.Rank.{rank}
 use Rattle.theory.specs.Levels.{highest, topLessBottom, Gapless, permutationOf, jump}
 use Rattle.theory.specs.CountUp.{countUp, callNumber, callPushes}
 use Rattle.theory.specs.Run.{steps, stepLevels}
+use Rattle.theory.specs.Spent.{callCharge}
 use Rattle.theory.specs.Refusal.{given}
 use Rattle.runs.specs.Steps.{pushCounts, countIn, RunOf}
 use Rattle.runs.specs.declared.answers.RanLevels.{RanLevels}
@@ -31,6 +32,7 @@ unfoldable pub levelRunAnswer : List ℕ → ℕ → RanLevels
 levelRunAnswer L k = record {
   number = callNumber k L;
   pushes = callPushes k L;
+  charge = callCharge k L;
   counts = row (given (callNumber k L) (pushCounts (length L) k (permutationOf L)) []);
   widest = given (callNumber k L) (widest k L) 0;
   largest = given (callNumber k L) (largestRaise k L) 0;

@@ -14,6 +14,8 @@ pub struct Ran {
 pub struct RanLevels {
     pub number: u8,
     pub pushes: u32,
+    // the jumps of these pushes, added up
+    pub charge: u32,
     // how often each cell was pushed, by cell name
     pub counts: [u64; 20],
     // the most that the highest level was above the lowest after any step

@@ -1,8 +1,9 @@
 // k steps on lent levels, each by the public jobs: it reads the permutation, asks its successor and pushes on the levels at the place given.
 ghost use mathlib.Core.Path.{_≡_};
-ghost use Prim.Native.Nat.{max};
+ghost use Prim.Native.Nat.{_+_, max};
 ghost use Rattle.theory.specs.Levels.{topLessBottom, pushLevel, jump};
 ghost use Rattle.theory.specs.CountUp.{nextCell, callNumber, callLevels};
+ghost use Rattle.theory.specs.Spent.{levelSum};
 ghost use Rattle.runs.specs.LevelSteps.{levelRunAnswer, LevelsOf};
 use super::answers::RanLevels;
 use charge::judge::highest;
@@ -10,6 +11,7 @@ use charge::judge::judge_call;
 use charge::judge::lowest;
 use charge::push_level::push_level;
 use charge::read::read;
+use charge::sum::level_sum;
 use permutation::cell::wide;
 use permutation::successor::successor;
 use ranking::rank::rank;
@@ -52,6 +54,7 @@ fn larger(a: u16, b: u16) -> u16
 pub fn run_levels(levels: &mut [u16], k: u32) -> RanLevels
     ensures answer { λ r. ⌜ r ≡ levelRunAnswer (now (levels .entry)) k ⌝ }
     ensures levels_left { λ _. ⌜ now (levels .exit) ≡ callLevels k (now (levels .entry)) ⌝ }
+    ensures spent { λ r. ⌜ levelSum (now (levels .exit)) ≡ levelSum (now (levels .entry)) + r .charge ⌝ }
     ensures demand3 { λ r. ⌜ (r .number ≡ 0 → LevelsOf (now (levels .entry)) k (now (levels .exit)) r) ⌝ }
 {
     let number = judge_call(levels, k).number;
@@ -60,12 +63,14 @@ pub fn run_levels(levels: &mut [u16], k: u32) -> RanLevels
         return RanLevels {
             number,
             pushes: 0,
+            charge: 0,
             counts,
             widest: 0,
             largest: 0,
             rank: 0,
         };
     }
+    let before = level_sum(levels);
     let mut widest: u16 = 0;
     let mut largest: u16 = 0;
     let mut done: u32 = 0;
@@ -77,10 +82,12 @@ pub fn run_levels(levels: &mut [u16], k: u32) -> RanLevels
         largest = larger(largest, stepped.raise);
         done += 1;
     }
+    let charge = level_sum(levels) - before;
     let standing = read(levels).permutation;
     RanLevels {
         number: 0,
         pushes: done,
+        charge,
         counts,
         widest,
         largest,

@@ -15,6 +15,7 @@ use Rattle.theory.specs.Levels.{level, tied, readNumber, permutationOf, pushLev
 use Rattle.theory.specs.CountUp.{ceilingOf}
 use Rattle.theory.specs.Prefix.{IsPrefix, prefixLength, symbolPrefix}
 use Rattle.theory.specs.Store.{storePushes}
+use Rattle.theory.specs.Spent.{chargeOf}
 use Rattle.theory.specs.Claims.{Storing, SymbolStoring}
 use Rattle.theory.proofs.Refusal.{given-done, given-so, orElse-refused, orElse-done, size-done, Readable, readable, read-done}
 use Rattle.theory.proofs.Members.{entry-inside}
@@ -67,7 +68,8 @@ module _ (code : ℕ) (L q : List ℕ) where
   pub lead-refused : {a : Pushes} {number : ℕ} → a ≡ noPushes number → number ≡ leadNumber code L q → (number ≡ 0 → ⊥) → Led code L q a L
   unfolding leadAnswer leadLevels
   lead-refused e is ne =
-      let b = pushes-refused (pushesFor L q) L (pushLevels (storePushes q (permutationOf L)) L) e is ne in
+      let cs : List ℕ = storePushes q (permutationOf L) in
+      let b = pushes-refused (pushesFor L q) (chargeOf cs L) L (pushLevels cs L) e is ne in
       (b .0, (b .1, λ z. absurd (not-done e ne z)))
 
   -- the number of the levels is that of the job, and then that of the code
@@ -133,12 +135,13 @@ module _ {L cells : List ℕ} {p : ℕ} (v : Storable L cells p) where
       unfolding storePushes
       pushes-are = rw (← count-now, take-take r p cells (u .within))
 
-      pub lead-done : {a : Pushes} {L′ : List ℕ} → (a ≡ pushesOf (ceilingOf L r) r) × (L′ ≡ raised L cells r) → Led 0 L (take p cells) a L′
+      pub lead-done : {a : Pushes} {L′ : List ℕ} → (a ≡ pushesOf (ceilingOf L r) r (chargeOf (reverse (take r cells)) L)) × (L′ ≡ raised L cells r)
+          → Led 0 L (take p cells) a L′
       unfolding leadAnswer leadLevels leadNumber raised
       lead-done {a} {L′} k =
           let q : List ℕ = take p cells in
           let left : L′ ≡ given (ceilingOf L r) (pushLevels (storePushes q (permutationOf L)) L) L = k .1 ∙ rw pushes-are in (
-            k .0 ∙ rw (read-done now, count-now),
+            k .0 ∙ rw (read-done now, pushes-are, count-now),
             (
               left ∙ rw (read-done now, count-now),
               λ z.

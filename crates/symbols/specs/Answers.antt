@@ -14,6 +14,7 @@ use Rattle.theory.specs.Levels.{permutationOf, pushLevels, readNumber}
 use Rattle.theory.specs.CountUp.{ceilingOf}
 use Rattle.theory.specs.Prefix.{prefixLength, symbolPrefix, symbolOf}
 use Rattle.theory.specs.Store.{storeCount, storePushes}
+use Rattle.theory.specs.Spent.{chargeOf}
 use Rattle.theory.specs.Refusal.{given, orElse, sizeOf}
 use Rattle.permutation.specs.Answers.{permuted}
 use Rattle.charge.specs.Answers.{pushesOf, readAnswer}
@@ -49,9 +50,9 @@ pushesFor L q = storeCount q (permutationOf L)
 unfoldable pub leadNumber : ℕ → List ℕ → List ℕ → ℕ
 leadNumber code L q = orElse (readNumber L) (orElse code (ceilingOf L (pushesFor L q)))
 
--- "Count up, rewrite and store, when done, give their number of pushes"
+-- "Count up, rewrite and store, when done, give their number of pushes"; document 02: they "give the total of their jumps"
 unfoldable pub leadAnswer : ℕ → List ℕ → List ℕ → Pushes
-leadAnswer code L q = pushesOf (leadNumber code L q) (pushesFor L q)
+leadAnswer code L q = pushesOf (leadNumber code L q) (pushesFor L q) (chargeOf (storePushes q (permutationOf L)) L)
 
 -- "then cells r to 1 are pushed"
 unfoldable pub leadLevels : ℕ → List ℕ → List ℕ → List ℕ

@@ -33,6 +33,7 @@ pub mod Rewriting
 pub mod Numbering
 pub mod Prefixes
 pub mod Storing
+pub mod Spent
 pub mod Readings
 pub mod Examples
 pub mod Theory

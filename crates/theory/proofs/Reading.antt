@@ -47,9 +47,9 @@ module _ (L : List ℕ) (c : ℕ) (low : 1 ≤ c) (high : c ≤ length L) where
       (λ ne e. omega (arith, level-suc (pushLevel c L) i, pushed-kept L c low (suc i) (omega arith) ne, level≤highest L (suc i)))) in
       omega (arith, level≤highest (pushLevel c L) c, pushed-level)
 
-jump-is : (L : List ℕ) (c : ℕ) → 1 ≤ c → c ≤ length L → level L c + jump c L ≡ level (pushLevel c L) c
-unfolding jump
-jump-is L c low high = omega (arith, pushed-level L c low high, level≤highest L c)
+  pub pushed-jump : level L c + jump c L ≡ suc (highest L)
+  unfolding jump
+  pushed-jump = omega (arith, pushed-level, level≤highest L c)
 
 -- ---- the permutation read from the levels
 
@@ -118,15 +118,24 @@ pub row-length : (cs L : List ℕ) → length (pushLevels cs L) ≡ length L
 row-length [] L = refl
 row-length (c ∷ cs) L = row-length cs (pushLevel c L) ∙ pushed-length c L
 
-pub reads-row : (cs : List ℕ) {L xs : List ℕ} → ((c : ℕ) → member c cs ≡ true → (1 ≤ c) × (c ≤ length L)) → ReadsAs L xs
-    → ReadsAs (pushLevels cs L) (pushCells cs xs) × (highest (pushLevels cs L) ≡ highest L + length cs)
-reads-row [] h r = (r, omega arith)
+-- the cells of a row are some of the group's
+abbrev pub Cells : List ℕ → List ℕ → Type 0
+Cells cs L = (c : ℕ) → member c cs ≡ true → (1 ≤ c) × (c ≤ length L)
+
+pub cells-later : (c : ℕ) (cs L : List ℕ) → Cells (c ∷ cs) L → Cells cs (pushLevel c L)
+cells-later c cs L h d m = let k = h d (member-later d c cs m) in (k .0, omega (arith, k .1, pushed-length c L))
+
+pub row-highest : (cs L : List ℕ) → Cells cs L → highest (pushLevels cs L) ≡ highest L + length cs
+row-highest [] L h = omega arith
+row-highest (c ∷ cs) L h =
+    let b = h c (member-first c cs) in
+    omega (arith, row-highest cs (pushLevel c L) (cells-later c cs L h), pushed-highest L c (b .0) (b .1))
+
+pub reads-row : (cs : List ℕ) {L xs : List ℕ} → Cells cs L → ReadsAs L xs → ReadsAs (pushLevels cs L) (pushCells cs xs)
+reads-row [] h r = r
 reads-row (c ∷ cs) {L} {xs} h r =
     let b = h c (member-first c cs) in
-    let rest = reads-row cs {L = pushLevel c L} {xs = pushCell c xs}
-    (λ d m. let k = h d (member-later d c cs m) in (k .0, omega (arith, k .1, pushed-length c L)))
-    (reads-cell c (b .0) (b .1) r) in
-    (rest .0, omega (arith, rest .1, pushed-highest L c (b .0) (b .1)))
+    reads-row cs {L = pushLevel c L} {xs = pushCell c xs} (cells-later c cs L h) (reads-cell c (b .0) (b .1) r)
 
 -- the top cell has the highest level
 pub reads-highest : {L : List ℕ} (xs : List ℕ) → 1 ≤ length L → ReadsAs L xs → level L (top xs) ≡ highest L
@@ -175,10 +184,10 @@ reading L h =
       push-level = λ c low high. pushed-level L c low high ∙ omega arith;
       push-others = λ c d low. pushed-kept L c low d;
       push-length = λ c. pushed-length c L;
-      push-jump = jump-is L;
+      push-jump = λ c low high. pushed-jump L c low high ∙ sym (pushed-level L c low high);
       push-read = λ i low high. reads-is (reads-push i low high r);
       push-highest = λ c low high. pushed-highest L c low high ∙ omega arith;
       push-untied = λ c low high. reads-untied (reads-cell c low high r);
-      row-read = λ cs k. reads-is (reads-row cs k r .0);
-      row-highest = λ cs k. reads-row cs k r .1;
+      row-read = λ cs k. reads-is (reads-row cs k r);
+      row-highest = λ cs. row-highest cs L;
     }

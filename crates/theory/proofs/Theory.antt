@@ -10,6 +10,7 @@ use Rattle.theory.proofs.Rewriting.{rewriting}
 use Rattle.theory.proofs.Prefixes.{numbering, coding}
 use Rattle.theory.proofs.Storing.{storing, symbol-storing}
 use Rattle.theory.proofs.Calls.{calling}
+use Rattle.theory.proofs.Spent.{spending}
 use Rattle.theory.proofs.Demand3.{demand3}
 use Rattle.theory.proofs.Readings.{readings}
 use Rattle.theory.proofs.Examples.{examples}
@@ -28,6 +29,7 @@ theory = record {
   storing = storing;
   symbol-storing = symbol-storing;
   calling = calling;
+  spending = spending;
   demand3 = demand3;
   readings = readings;
   examples = examples;

@@ -15,6 +15,7 @@ pub mod Run
 pub mod Rewrite
 pub mod Prefix
 pub mod Store
+pub mod Spent
 pub mod Claims
 pub mod Demand3
 pub mod Readings

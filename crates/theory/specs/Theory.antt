@@ -8,7 +8,7 @@ use Rattle.theory.specs.Factorial.{factorial}
 use Rattle.theory.specs.Permutation.{IsPermutation}
 use Rattle.theory.specs.Levels.{tied}
 use Rattle.theory.specs.Prefix.{IsPrefix}
-use Rattle.theory.specs.Claims.{Reasons, Factorials, Padding, Ranking, Stepping, Reading, Rewriting, Numbering, Coding, Storing, SymbolStoring, Calling}
+use Rattle.theory.specs.Claims.{Reasons, Factorials, Padding, Ranking, Stepping, Reading, Rewriting, Numbering, Coding, Storing, SymbolStoring, Calling, Spending}
 use Rattle.theory.specs.Demand3.{Demand3}
 use Rattle.theory.specs.Readings.{Readings}
 use Rattle.theory.specs.Examples.{Examples}
@@ -26,6 +26,7 @@ pub record Theory : Type 0 where
   pub storing : (n p : ℕ) (q xs : List ℕ) → IsPrefix n p q → IsPermutation n xs → Storing n p q xs
   pub symbol-storing : (n m s : ℕ) (xs : List ℕ) → m ≤ factorial n → s < m → IsPermutation n xs → SymbolStoring n m s xs
   pub calling : (k : ℕ) (L : List ℕ) → Calling k L
+  pub spending : (L : List ℕ) → Spending L
   pub demand3 : (n : ℕ) → 2 ≤ n → Demand3 n
   pub readings : Readings
   pub examples : Examples

@@ -1,9 +1,10 @@
 -- `charge::count_up::count_up` meets its contract: the call is judged, and where it is done the steps are. Assumes nothing.
-use mathlib.Core.Path.{refl, ap}
+use mathlib.Core.Path.{refl, ap, _∙_}
 use native.Mathlib.Omega.{arith}
 use borrow.Author.Needs.{needs}
 use Rattle.theory.specs.CountUp.{countUp, callLevels}
-use Rattle.charge.specs.Answers.{callAnswer}
+use Rattle.theory.specs.Spent.{chargeOf, countUpPushes}
+use Rattle.charge.specs.Answers.{donePushes, callAnswer}
 use Rattle.charge.specs.Counting.{callJudged}
 use Rattle.charge.specs.declared.judge.Call.{Call}
 use Rattle.charge.proofs.Sorting.{sorted-row}
@@ -26,7 +27,7 @@ returns : tie.Need-returns
 unfolding callJudged callAnswer callLevels
 returns c =
     let at = c .before .before in let a = at .before .before .before .args in
-    pushes-refused (a .k) (a .levels .now) (countUp (a .k) (a .levels .now)) (c .no-pushes .ensures)
+    pushes-refused (a .k) (chargeOf (countUpPushes (a .k) (a .levels .now)) (a .levels .now)) (a .levels .now) (countUp (a .k) (a .levels .now)) (c .no-pushes .ensures)
     (ap (λ (a : Call). a .number) (at .judge-call .ensures)) (c .before .if1 .taken)
 
 sort-cells-requires : tie.Need-sort-cells-requires
@@ -55,7 +56,9 @@ unfolding callAnswer callLevels
 returns-2 c =
     let at = c .before .before .before in
     let a = past (at .before) .before .before .before .before .args in
-    pushes-done (a .k) _ (countUp (a .k) (a .levels .now)) (c .done-pushes .ensures) (call (past (at .before)) .number) (at .count-steps .ensures)
+    let counted = at .count-steps .ensures in
+    pushes-done (a .k) _ _ (countUp (a .k) (a .levels .now)) (c .done-pushes .ensures ∙ ap (donePushes (a .k)) (counted .spent))
+    (call (past (at .before)) .number) (counted .levels)
 
 pub count-up-spec : {M : Type 1} → statement M
 count-up-spec =

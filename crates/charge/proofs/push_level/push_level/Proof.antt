@@ -1,18 +1,18 @@
 -- `charge::push_level::push_level` meets its contract: each test decides the number, and past them the sorted row has the cell. Assumes nothing.
-use mathlib.Core.Path.{_≡_, refl, sym, _∙_}
+use mathlib.Core.Path.{_≡_, refl, sym, ap, _∙_}
 use mathlib.Core.List.{List}
-use Prim.Native.Nat.{ℕ, _≤_}
+use Prim.Native.Nat.{ℕ, _+_, _-_, _≤_}
 use native.Mathlib.Omega.{arith}
 use borrow.Author.Needs.{needs}
-use lib.ListN.{length}
+use lib.ListN.{length, getD}
 use Rattle.theory.specs.Permutation.{cellAt}
-use Rattle.theory.specs.Levels.{permutationOf, pushLevel}
+use Rattle.theory.specs.Levels.{permutationOf, pushLevel, jump}
 use Rattle.theory.proofs.Refusal.{Readable, readable}
-use Rattle.charge.specs.Answers.{noPushes, placeNumber, placeAnswer, placeLevels}
+use Rattle.charge.specs.Answers.{noPushes, donePushes, placeNumber, placeAnswer, placeLevels}
 use Rattle.charge.specs.declared.answers.Pushes.{Pushes}
 use Rattle.charge.proofs.Sorting.{sorted-row}
 use Rattle.charge.proofs.Numbers.{pushes-refused, pushes-done, place-fault, place-low, place-high, place-ceiling, place-done}
-use Rattle.charge.proofs.Pushing.{PlacedCell, placed-cell, placed-push}
+use Rattle.charge.proofs.Pushing.{PlacedCell, placed-cell, placed-push, placed-jump}
 use Rattle.charge.proofs.push_level.push_level.Statement.{statement}
 use Rattle.charge.proofs.push_level.push_level.Tie as tie
 
@@ -41,7 +41,7 @@ cell c =
 refuses : (L : List ℕ) (i : ℕ) {a : Pushes} {number : ℕ} → a ≡ noPushes number → number ≡ placeNumber L i → (number ≡ 0 → ⊥)
     → (a ≡ placeAnswer L i) × (L ≡ placeLevels L i)
 unfolding placeAnswer placeLevels
-refuses L i = pushes-refused 1 L (pushLevel (cellAt i (permutationOf L)) L)
+refuses L i = pushes-refused 1 (jump (cellAt i (permutationOf L)) L) L (pushLevel (cellAt i (permutationOf L)) L)
 
 same-length : tie.Need-same-length
 same-length c = search needs
@@ -80,17 +80,43 @@ sub-wide c = search needs
 array-read-wide : tie.Need-array-read-wide
 array-read-wide c = omega (arith, placed (past (c .before)) .0 .many)
 
-sub-levels : tie.Need-sub-levels
-sub-levels c = omega (arith, cell c .low)
+-- its jump
+jumps : (c : tie.After-wide)
+    → let a = entry (past (c .before .before) .before .before) .args in
+    let top = c .before .before .before .before .before .highest .result in
+    (getD (a .levels .now) (c .wide .result - 1) 0 ≤ top + 1)
+    × (top + 1 - getD (a .levels .now) (c .wide .result - 1) 0 ≡ jump (cellAt (a .place) (permutationOf (a .levels .now))) (a .levels .now))
+jumps c = placed-jump (cell c) (c .before .before .before .before .before .highest .ensures)
+
+sub-before : tie.Need-sub-before
+sub-before c = cell c .low
+
+mul-before : tie.Need-mul-before
+mul-before c = omega (arith, cell c .high)
+
+slice-read-before : tie.Need-slice-read-before
+slice-read-before c = let b = cell (c .before) in omega (arith, b .low, b .high)
 
 add-levels : tie.Need-add-levels
 add-levels c = search needs
 
+sub-levels : tie.Need-sub-levels
+sub-levels c = sub-before (c .before)
+
 mul-levels : tie.Need-mul-levels
-mul-levels c = omega (arith, cell c .high)
+mul-levels c = mul-before (c .before)
 
 slice-write-levels : tie.Need-slice-write-levels
-slice-write-levels c = omega (arith, cell c .low, cell c .high)
+slice-write-levels c = slice-read-before c
+
+add-jump : tie.Need-add-jump
+add-jump c = add-levels c
+
+sub-jump : tie.Need-sub-jump
+sub-jump c = jumps (c .before) .0
+
+cast-done-pushes : tie.Need-cast-done-pushes
+cast-done-pushes c = search needs
 
 same-length-5 : tie.Need-same-length-5
 same-length-5 c = search needs
@@ -98,11 +124,13 @@ same-length-5 c = search needs
 returns-5 : tie.Need-returns-5
 unfolding placeAnswer placeLevels
 returns-5 c =
-    let at = c .before .before .before in let top = at .before .before .before .highest in
+    let chosen = c .before .before in
+    let at = chosen .before .before in let top = at .before .before .before .highest in
     let a = entry (past at .before .before) .args in
     let b = placed (past at) in
-    pushes-done 1 (a .levels .now) (pushLevel (cellAt (a .place) (permutationOf (a .levels .now))) (a .levels .now)) (c .done-pushes .ensures)
-    (place-done _ _ (b .0) (b .1) (b .2) (omega (arith, top .ok, top .ensures))) (placed-push (cell (c .before)) (top .ensures))
+    pushes-done 1 _ (a .levels .now) (pushLevel (cellAt (a .place) (permutationOf (a .levels .now))) (a .levels .now))
+    (c .done-pushes .ensures ∙ ap (donePushes 1) (jumps chosen .1))
+    (place-done _ _ (b .0) (b .1) (b .2) (omega (arith, top .ok, top .ensures))) (placed-push (cell chosen) (top .ensures))
 
 pub push-level-spec : {M : Type 1} → statement M
 push-level-spec =
@@ -126,10 +154,16 @@ push-level-spec =
     sub-wide
     array-read-wide
     (λ c κs. tt)
+    sub-before
+    mul-before
+    slice-read-before
     add-levels
     sub-levels
     mul-levels
     slice-write-levels
+    add-jump
+    sub-jump
+    cast-done-pushes
     (λ c κs. tt)
     same-length-5
     returns-5)

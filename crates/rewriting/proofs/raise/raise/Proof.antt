@@ -1,12 +1,15 @@
 -- `rewriting::raise::raise` meets its contract: the test decides between ceiling and the pushes. Assumes nothing.
-use mathlib.Core.List.{reverse}
-use Prim.Native.Nat.{_+_, _≤_}
+use mathlib.Core.Path.{ap, _∙_}
+use mathlib.Core.List.{List, reverse}
+use Prim.Native.Nat.{ℕ, _+_, _≤_}
 use native.Mathlib.Omega.{arith}
 use borrow.Author.Needs.{needs}
 use lib.ListN.{take}
 use Rattle.theory.specs.Reasons.{maxLevel}
 use Rattle.theory.specs.Levels.{pushLevels}
+use Rattle.theory.specs.Spent.{chargeOf}
 use Rattle.theory.proofs.Refusal.{ceiling-refused, ceiling-done}
+use Rattle.charge.specs.Answers.{donePushes}
 use Rattle.charge.proofs.Numbers.{pushes-refused, pushes-done}
 use Rattle.rewriting.specs.Raising.{raised}
 use Rattle.rewriting.proofs.raise.raise.Statement.{statement}
@@ -33,7 +36,8 @@ unfolding raised
 returns c =
     let at = c .before .before in
     let a = at .before .before .before .args in
-    pushes-refused (a .r) (a .levels .now) (pushLevels (reverse (take (a .r) (a .cells .now))) (a .levels .now)) (c .no-pushes .ensures)
+    let cs : List ℕ = reverse (take (a .r) (a .cells .now)) in
+    pushes-refused (a .r) (chargeOf cs (a .levels .now)) (a .levels .now) (pushLevels cs (a .levels .now)) (c .no-pushes .ensures)
     (ceiling-refused (a .levels .now) (a .r) (omega (arith, c .before .if1 .taken, at .highest .ensures))) (λ z. omega arith)
 
 push-first-requires : tie.Need-push-first-requires
@@ -51,8 +55,10 @@ unfolding raised
 returns-2 c =
     let at = past (c .before) in
     let a = at .before .before .before .before .args in
-    pushes-done (a .r) (a .levels .now) (pushLevels (reverse (take (a .r) (a .cells .now))) (a .levels .now)) (c .done-pushes .ensures)
-    (ceiling-done (a .levels .now) (a .r) (omega (arith, at .before .highest .ensures, room at))) (c .before .before .before .push-first .ensures)
+    let first = c .before .before .before .push-first .ensures in
+    pushes-done (a .r) _ (a .levels .now) (pushLevels (reverse (take (a .r) (a .cells .now))) (a .levels .now))
+    (c .done-pushes .ensures ∙ ap (donePushes (a .r)) (first .0))
+    (ceiling-done (a .levels .now) (a .r) (omega (arith, at .before .highest .ensures, room at))) (first .1)
 
 pub raise-spec : {M : Type 1} → statement M
 raise-spec =

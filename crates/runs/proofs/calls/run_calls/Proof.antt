@@ -10,15 +10,15 @@ use Rattle.runs.proofs.calls.run_calls.Statement.{statement}
 use Rattle.runs.proofs.calls.run_calls.Tie as tie
 
 abbrev Inv-loop : tie.InvT-loop
-Inv-loop levels₀ counts numbers₀ pushes₀ i₀ levels numbers pushes i = Made levels₀ counts numbers₀ i levels numbers pushes
+Inv-loop levels₀ counts numbers₀ pushes₀ charge₀ i₀ levels numbers pushes charge i = Made levels₀ counts numbers₀ i levels numbers pushes charge
 
 abbrev μ-loop : tie.MeasureT-loop
-μ-loop levels₀ counts numbers₀ pushes₀ i₀ levels numbers pushes i = length counts - i
+μ-loop levels₀ counts numbers₀ pushes₀ charge₀ i₀ levels numbers pushes charge i = length counts - i
 
 returns : tie.Need-returns Inv-loop μ-loop
 returns c =
     let b = called-refused _ _ _ (c .no-pushes .ensures) (c .before .if1 .taken) in
-    (b .0, (b .1 .0, (b .1 .1, λ z. absurd (omega (arith, z, ap (λ (a : Pushes). a .number) (c .no-pushes .ensures))))))
+    (b .0, (b .1 .0, (b .1 .1 .0, (b .1 .1 .1, λ z. absurd (omega (arith, z, ap (λ (a : Pushes). a .number) (c .no-pushes .ensures)))))))
 
 loop-holds : tie.Need-loop-holds Inv-loop μ-loop
 loop-holds c = made-none (c .if1 .left)
@@ -38,8 +38,10 @@ made : (c : tie.After-struct-known Inv-loop μ-loop)
     let at = turn .before .before .before .before in
     let a = at .before .before .before .before .before .args in
     (at .loop .pushes + turn .count-up .result .pushes ≤ 65535)
+    × (at .loop .charge + turn .count-up .result .charge ≤ 1310700)
     × Made (a .levels .now) (a .counts .now) (a .numbers .now) (at .loop .i + 1) (turn .count-up .last .0)
     (set (at .loop .numbers) (at .loop .i) (turn .count-up .result .number)) (at .loop .pushes + turn .count-up .result .pushes)
+    (at .loop .charge + turn .count-up .result .charge)
 made c =
     let turn = c .before .before .before in
     let at = turn .before .before .before .before in
@@ -48,6 +50,9 @@ made c =
 add-pushes : tie.Need-add-pushes Inv-loop μ-loop
 add-pushes c = omega (arith, made c .0)
 
+add-charge : tie.Need-add-charge Inv-loop μ-loop
+add-charge c = omega (arith, made (c .before) .1)
+
 add-i : tie.Need-add-i Inv-loop μ-loop
 add-i c = search needs
 
@@ -55,7 +60,7 @@ loop-less : tie.Need-loop-less Inv-loop μ-loop
 loop-less c = search needs
 
 loop-again : tie.Need-loop-again Inv-loop μ-loop
-loop-again c = made c .1
+loop-again c = made (c .before) .2
 
 same-length : tie.Need-same-length Inv-loop μ-loop
 same-length c = levels-length (c .before .before .loop .inv)
@@ -69,7 +74,7 @@ returns-2 c =
     let all = c .before .loop-test .left in
     let e = c .done-pushes .ensures in
     let b = called-done v all e in
-    (b .0, (b .1 .0, (b .1 .1, λ z few start. rw (ap (λ (a : Pushes). a .pushes) e) (calls-of v all few start))))
+    (b .0, (b .1 .0, (b .1 .1 .0, (b .1 .1 .1, λ z few start. rw (ap (λ (a : Pushes). a .pushes) e) (calls-of v all few start)))))
 
 pub run-calls-spec : {M : Type 1} → statement M
 run-calls-spec =
@@ -85,6 +90,7 @@ run-calls-spec =
     (λ c κs. tt)
     slice-write-numbers
     add-pushes
+    add-charge
     add-i
     loop-less
     loop-again
