@@ -29,7 +29,7 @@ extern "C" {
 
 /* The version of this header and its library; README.md and the Rust package have the same. The second number counts landings (docs/landings/), each of which
  * may change what a caller sees; the third counts corrections since, which change nothing that a caller relies on. The first is 0 until a release. */
-#define TM_VERSION "0.9.0"
+#define TM_VERSION "0.10.0"
 /* The most cells of a group, and the places of a record's row. */
 #define TM_CELLS 20
 /* The most bytes of a sheet without fault; a longer one is faulty. */
@@ -80,9 +80,12 @@ typedef struct tm_ranked {
     uint64_t rank;
 } tm_ranked;
 
+/* What a job that pushes on levels spends: its number of pushes, and its charge (document 02), the total of their jumps. The jump of a push is its cell's new
+ * level less the old, so that the charge equals the sum of all levels after the call less the sum before; it is below 20 * 65,536 and fits. Refused, both are 0. */
 typedef struct tm_pushes {
     uint8_t number;
     uint32_t pushes;
+    uint32_t charge;
 } tm_pushes;
 
 typedef struct tm_symbol {
@@ -129,18 +132,20 @@ tm_permuted tm_unrank(size_t n, uint64_t rank);
  * Unchanged: `levels`, always. */
 tm_permuted tm_read(const uint16_t *levels, size_t n);
 
-/* Pushes the cell at `place` of the levels' permutation: its level becomes the highest plus 1. Gives the number of pushes, 1.
+/* Pushes the cell at `place` of the levels' permutation: its level becomes the highest plus 1. Gives the number of pushes, 1, and its jump as charge.
  * Refused: 1 size, n is not 2 to 20; 4 tie, two levels are equal; 5 value, `place` is not 2 to n; 6 ceiling, the highest level is 65,535.
  * Unchanged: all other levels; refused, all levels. */
 tm_pushes tm_push_level(uint16_t *levels, size_t n, size_t place);
 
-/* Counts up by k: k next steps, each a push on the levels. Gives the number of pushes, k. With k = 0 nothing is pushed.
+/* Counts up by k: k next steps, each a push on the levels. Gives the number of pushes, k, and the total of their jumps as charge. With k = 0 nothing
+ * is pushed, and both are 0.
  * Refused: 1 size, n is not 2 to 20; 4 tie, two levels are equal; 6 ceiling, the highest level plus k exceeds 65,535.
  * Unchanged: the levels of cells that are not pushed; refused, all levels. A call is done in full or not at all. */
 tm_pushes tm_count_up(uint16_t *levels, size_t n, uint32_t k);
 
 /* Pushes the target's cells at places r, r - 1, ..., 1, in that sequence, so that the levels are then read as `target`; r, 0 to n - 1, is the fewest pushes
- * that lead there. Gives r. The names of the cells pushed go to the first r bytes of `list`, in the sequence of the pushes; `list` has `room` bytes.
+ * that lead there. Gives r, and the total of the jumps as charge. The names of the cells pushed go to the first r bytes of `list`, in the sequence of the
+ * pushes; `list` has `room` bytes.
  * Refused: 1 size, the group's n or the target's is not 2 to 20; 2 fit, the target's n is not the group's or `room` is below n - 1; 3 muddle, the target is no
  * permutation; 4 tie, two levels are equal; 6 ceiling, the highest level plus r exceeds 65,535.
  * Unchanged: the levels of cells that are not pushed, and the list's bytes after the first r; refused, all levels and the whole list. */
@@ -152,7 +157,7 @@ tm_pushes tm_rewrite(uint16_t *levels, size_t n, tm_permutation target, uint8_t 
 
 /* Stores `symbol`: its prefix comes to the top, by pushing its cells at places r, r - 1, ..., 1, in that sequence. r is the smallest number for which the levels'
  * permutation, with the prefix's first r cells taken out, begins with the rest of the prefix, and the fewest pushes that lead to any permutation with that prefix.
- * Gives r. A symbol that stands already is not pushed at all, and is stored at 65,535 too.
+ * Gives r, and the total of the jumps as charge. A symbol that stands already is not pushed at all: both are 0, and it is stored at 65,535 too.
  * Refused: 1 size, n is not 2 to 20; 4 tie, two levels are equal; 5 value, m is 0 or above n!, or `symbol` is m or more; 6 ceiling, the highest level plus the
  * pushes exceeds 65,535.
  * Unchanged: the levels of cells that are not pushed; refused, all levels. */

@@ -5,7 +5,8 @@
 #include "turretmedlar.h"
 
 static void show(const char *job, tm_pushes answer, const uint16_t *levels) {
-    printf("%s: number %u, pushes %" PRIu32 ", levels %u %u %u %u\n", job, answer.number, answer.pushes, levels[0], levels[1], levels[2], levels[3]);
+    printf("%s: number %u, pushes %" PRIu32 ", charge %" PRIu32, job, answer.number, answer.pushes, answer.charge);
+    printf(", levels %u %u %u %u\n", levels[0], levels[1], levels[2], levels[3]);
 }
 
 int main(void) {

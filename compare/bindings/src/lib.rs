@@ -76,12 +76,25 @@ impl Permutation {
     }
 }
 
+/// What a job that pushes on levels spends, when done.
+#[derive(Clone, Copy, Debug, PartialEq, Eq)]
+pub struct Spent {
+    /// The number of pushes.
+    pub pushes: u32,
+    /// The total of their jumps. The jump of a push is its cell's new level less the old, so that the total is the sum of all levels afterwards less the sum before.
+    pub charge: u32,
+}
+
 fn given<T>(number: u8, value: T) -> Result<T, Reason> {
     if number == 0 {
         Ok(value)
     } else {
         Err(REASONS[number as usize - 1].0)
     }
+}
+
+fn spent(answer: raw::Pushes) -> Result<Spent, Reason> {
+    given(answer.number, Spent { pushes: answer.pushes, charge: answer.charge })
 }
 
 /// The permutation after a push at a place from 2 to n.
@@ -126,33 +139,29 @@ pub fn read(levels: &[u16]) -> Result<Permutation, Reason> {
     given(answer.number, answer.permutation)
 }
 
-/// Pushes the cell at a place, and gives the number of pushes, 1.
+/// Pushes the cell at a place, and gives the number of pushes, 1, and its jump.
 /// Refused: Size, Tie, Value, Ceiling.
-pub fn push_level(levels: &mut [u16], place: usize) -> Result<u32, Reason> {
-    let answer = raw::push_level(levels, place);
-    given(answer.number, answer.pushes)
+pub fn push_level(levels: &mut [u16], place: usize) -> Result<Spent, Reason> {
+    spent(raw::push_level(levels, place))
 }
 
-/// Does k next steps, and gives the number of pushes, k.
+/// Does k next steps, and gives the number of pushes, k, and the total of their jumps; both are 0 where k is.
 /// Refused: Size, Tie, Ceiling.
-pub fn count_up(levels: &mut [u16], k: u32) -> Result<u32, Reason> {
-    let answer = raw::count_up(levels, k);
-    given(answer.number, answer.pushes)
+pub fn count_up(levels: &mut [u16], k: u32) -> Result<Spent, Reason> {
+    spent(raw::count_up(levels, k))
 }
 
-/// Makes the levels read as the target by the fewest pushes. Their names go to the start of the list, and their number is given.
+/// Makes the levels read as the target by the fewest pushes. Their names go to the start of the list; their number and the total of their jumps are given.
 /// The list needs n - 1 bytes.
 /// Refused: Size, Fit, Muddle, Tie, Ceiling.
-pub fn rewrite(levels: &mut [u16], target: Permutation, list: &mut [u8]) -> Result<u32, Reason> {
-    let answer = raw::rewrite(levels, target, list);
-    given(answer.number, answer.pushes)
+pub fn rewrite(levels: &mut [u16], target: Permutation, list: &mut [u8]) -> Result<Spent, Reason> {
+    spent(raw::rewrite(levels, target, list))
 }
 
-/// Stores a symbol of a code of m symbols by the fewest pushes, none where it stands already, and gives their number.
+/// Stores a symbol of a code of m symbols by the fewest pushes, none where it stands already, and gives their number and the total of their jumps.
 /// Refused: Size, Tie, Value, Ceiling.
-pub fn store(levels: &mut [u16], m: u64, symbol: u64) -> Result<u32, Reason> {
-    let answer = raw::store(levels, m, symbol);
-    given(answer.number, answer.pushes)
+pub fn store(levels: &mut [u16], m: u64, symbol: u64) -> Result<Spent, Reason> {
+    spent(raw::store(levels, m, symbol))
 }
 
 /// The symbol that stands, of a code of m symbols.

@@ -42,12 +42,13 @@ pub struct Ranked {
     pub rank: u64,
 }
 
-/// What the jobs that push on levels answer: how many pushes they did.
+/// What the jobs that push on levels answer: how many pushes they did, and the charge that these spent.
 #[repr(C)]
 #[derive(Clone, Copy, Debug, PartialEq, Eq)]
 pub struct Pushes {
     pub number: u8,
     pub pushes: u32,
+    pub charge: u32,
 }
 
 /// What [`read_symbol`] answers.
@@ -80,7 +81,7 @@ const _: () = assert!(size_of::<Permuted>() == 40 && offset_of!(Permuted, permut
 const _: () = assert!(size_of::<Placed>() == 16 && offset_of!(Placed, place) == 8);
 const _: () = assert!(size_of::<Digits>() == 21 && offset_of!(Digits, row) == 1);
 const _: () = assert!(size_of::<Ranked>() == 16 && offset_of!(Ranked, rank) == 8);
-const _: () = assert!(size_of::<Pushes>() == 8 && offset_of!(Pushes, pushes) == 4);
+const _: () = assert!(size_of::<Pushes>() == 12 && offset_of!(Pushes, pushes) == 4 && offset_of!(Pushes, charge) == 8);
 const _: () = assert!(size_of::<Symbol>() == 16 && offset_of!(Symbol, symbol) == 8);
 const _: () = assert!(size_of::<Printed>() == 16 && offset_of!(Printed, length) == 8);
 const _: () = assert!(size_of::<Written>() == 16 && offset_of!(Written, length) == 8);

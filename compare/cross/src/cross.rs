@@ -1,6 +1,7 @@
 //! One comparing function per exported function: the raw answer, the `Result` and every lent list afterwards, each beside the model's.
 use crate::held::{held, Rows};
 use crate::lent::{Entry, Lent};
+use model::Spent;
 use std::fmt::Debug;
 use turretmedlar::{raw, Permutation, Reason};
 
@@ -65,6 +66,25 @@ impl Cross {
         done.then_some(expected_first)
     }
 
+    /// The same for a job that pushes on levels. The model adds jump to jump; its total must be what the levels gained, so that the library's is that too.
+    fn lend_to_push(
+        &mut self,
+        case: &dyn Debug,
+        (levels, list): (&[u16], &[u8]),
+        model: impl Fn(&mut [u16], &mut [u8]) -> Result<Spent, model::Reason>,
+        raw: impl Fn(&mut [u16], &mut [u8]) -> raw::Pushes,
+        safe: impl Fn(&mut [u16], &mut [u8]) -> Result<turretmedlar::Spent, Reason>,
+    ) -> Option<Vec<u16>> {
+        let sum = |levels: &[u16]| levels.iter().map(|&level| u64::from(level)).sum::<u64>();
+        let model = |levels: &mut [u16], list: &mut [u8]| {
+            let before = sum(levels);
+            let spent = model(levels, list)?;
+            assert_eq!(before + u64::from(spent.charge), sum(levels), "the sum of the levels after {case:?}");
+            Ok(spent)
+        };
+        self.lend(case, (levels, list), model, |levels, list| pushes(raw(levels, list)), |levels, list| safe(levels, list).map(spent))
+    }
+
     pub fn push(&mut self, record: Permutation, place: usize) {
         let expected = model::push(&twin(record), place).map(of_model);
         let safe = turretmedlar::push(record, place).map(of_library);
@@ -102,41 +122,41 @@ impl Cross {
     }
 
     pub fn push_level(&mut self, levels: &[u16], place: usize) -> Option<Vec<u16>> {
-        self.lend(
+        self.lend_to_push(
             &("push_level", levels, place),
             (levels, &[]),
             |levels, _| model::push_level(levels, place),
-            |levels, _| pushes(raw::push_level(levels, place)),
+            |levels, _| raw::push_level(levels, place),
             |levels, _| turretmedlar::push_level(levels, place),
         )
     }
 
     pub fn count_up(&mut self, levels: &[u16], k: u32) -> Option<Vec<u16>> {
-        self.lend(
+        self.lend_to_push(
             &("count_up", levels, k),
             (levels, &[]),
             |levels, _| model::count_up(levels, k),
-            |levels, _| pushes(raw::count_up(levels, k)),
+            |levels, _| raw::count_up(levels, k),
             |levels, _| turretmedlar::count_up(levels, k),
         )
     }
 
     pub fn rewrite(&mut self, levels: &[u16], target: Permutation, list: &[u8]) -> Option<Vec<u16>> {
-        self.lend(
+        self.lend_to_push(
             &("rewrite", levels, target, list),
             (levels, list),
             |levels, list| model::rewrite(levels, &twin(target), list),
-            |levels, list| pushes(raw::rewrite(levels, target, list)),
+            |levels, list| raw::rewrite(levels, target, list),
             |levels, list| turretmedlar::rewrite(levels, target, list),
         )
     }
 
     pub fn store(&mut self, levels: &[u16], m: u64, symbol: u64) -> Option<Vec<u16>> {
-        self.lend(
+        self.lend_to_push(
             &("store", levels, m, symbol),
             (levels, &[]),
             |levels, _| model::store(levels, m, symbol),
-            |levels, _| pushes(raw::store(levels, m, symbol)),
+            |levels, _| raw::store(levels, m, symbol),
             |levels, _| turretmedlar::store(levels, m, symbol),
         )
     }
@@ -215,8 +235,13 @@ fn permuted(answer: raw::Permuted) -> (u8, Record) {
     (answer.number, of_library(answer.permutation))
 }
 
-fn pushes(answer: raw::Pushes) -> (u8, u32) {
-    (answer.number, answer.pushes)
+/// The model's words for what was spent.
+pub fn spent(spent: turretmedlar::Spent) -> Spent {
+    Spent { pushes: spent.pushes, charge: spent.charge }
+}
+
+fn pushes(answer: raw::Pushes) -> (u8, Spent) {
+    (answer.number, Spent { pushes: answer.pushes, charge: answer.charge })
 }
 
 fn symbol(answer: raw::Symbol) -> (u8, u64) {

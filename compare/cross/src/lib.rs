@@ -8,7 +8,7 @@ mod lent;
 mod random;
 pub mod sheet;
 
-pub use cross::{twin, Cross};
+pub use cross::{spent, twin, Cross};
 pub use held::{held, Rows};
 pub use lent::{fill, Lent};
 pub use random::Random;

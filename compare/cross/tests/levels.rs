@@ -1,6 +1,7 @@
 //! Jobs on levels: read, push and count up, and lists of wrong lengths and with ties in every job that takes levels.
 use cross::cases::{factorial, permutations, places, CEILING};
 use cross::{Cross, Random};
+use turretmedlar::Spent;
 
 /// Numbers of steps about a whole round, the room below the ceiling and the ends of 16 and 32 bits.
 fn counts(levels: &[u16]) -> Vec<u32> {
@@ -129,6 +130,35 @@ fn long_runs() {
     }
     count_up_by(&mut cross, &[2, 0, 1], 65_533..=65_536);
     cross.met(&[0, 6]);
+}
+
+/// One cell near the ceiling, the others at the bottom: a push of one of these jumps over almost the whole range, or over all of it.
+#[test]
+fn the_longest_jumps() {
+    let (mut cross, mut random) = (Cross::default(), Random::seeded(209));
+    for n in 2..=20 {
+        for room in [1, 2, 5, n as u16, 60] {
+            let level = |name: u8| if usize::from(name) == n { CEILING - room } else { u16::from(name) - 1 };
+            let levels: Vec<u16> = random.names(n).into_iter().map(level).collect();
+            push_at_every_place(&mut cross, &levels);
+            count_up_by(&mut cross, &levels, 0..=u32::from(room) + 1);
+        }
+    }
+    assert_eq!(turretmedlar::push_level(&mut [0, CEILING - 1], 2), Ok(Spent { pushes: 1, charge: CEILING.into() }));
+    cross.met(&[0, 5, 6]);
+}
+
+/// Every cell from the bottom to the ceiling, by one count and by two: hardly any total is larger.
+#[test]
+fn large_totals() {
+    let mut cross = Cross::default();
+    for n in [2, 3, 19, 20] {
+        let bottom: Vec<u16> = (0..n).collect();
+        cross.count_up(&bottom, (CEILING - (n - 1)).into());
+        let half = cross.count_up(&bottom, 30_000).expect("room for all");
+        cross.count_up(&half, (CEILING - (n - 1) - 30_000).into());
+    }
+    cross.met(&[0]);
 }
 
 #[test]

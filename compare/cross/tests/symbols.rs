@@ -1,7 +1,7 @@
 //! Rewriting, and storing and reading a symbol.
 use cross::cases::{factorial, falling, pairs, permutations, record, scales, CEILING};
 use cross::{fill, twin, Cross, Random};
-use turretmedlar::Permutation;
+use turretmedlar::{Permutation, Spent};
 
 /// Rewrites, and where that is done reads the target back.
 fn rewrite(cross: &mut Cross, levels: &[u16], target: Permutation, room: usize) {
@@ -21,8 +21,8 @@ fn store(cross: &mut Cross, levels: &[u16], m: u64, symbol: u64) -> Option<Vec<u
 }
 
 /// Two tops for a job on levels of these names: one with which its pushes just fit, and one too high by 1. Without pushes both are the ceiling.
-fn tops(names: &[u8], job: impl Fn(&mut [u16]) -> Result<u32, model::Reason>) -> [u16; 2] {
-    let pushes = job(&mut Random::seeded(0).levels(names, 1000)).unwrap_or(1) as u16;
+fn tops(names: &[u8], job: impl Fn(&mut [u16]) -> Result<model::Spent, model::Reason>) -> [u16; 2] {
+    let pushes = job(&mut Random::seeded(0).levels(names, 1000)).map_or(1, |spent| spent.pushes) as u16;
     [CEILING - pushes, CEILING - pushes.saturating_sub(1)]
 }
 
@@ -91,11 +91,28 @@ fn targets_that_need_each_number_of_pushes() {
             let mut low = random.levels(&names, 1000);
             names[..=r].rotate_left(1);
             names[..r].reverse();
-            assert_eq!(model::rewrite(&mut low, &twin(record(&names)), &mut [0; 20]), Ok(r as u32), "the pushes to {names:?}");
+            let spent = model::rewrite(&mut low, &twin(record(&names)), &mut [0; 20]);
+            assert_eq!(spent.map(|spent| spent.pushes), Ok(r as u32), "the pushes to {names:?}");
             rewrite(&mut cross, &levels, record(&names), n - 1);
         }
     }
     cross.met(&[0, 6]);
+}
+
+/// One cell just below the ceiling, the others at the bottom, each of which is pushed: the largest totals of a rewrite and of a store.
+#[test]
+fn the_largest_totals() {
+    let mut cross = Cross::default();
+    for n in 2..=20 {
+        let names: Vec<u8> = (1..=n as u8).collect();
+        let reversed: Vec<u8> = (1..=n as u8).rev().collect();
+        let mut levels: Vec<u16> = (0..n as u16).rev().collect();
+        levels[0] = CEILING - (n as u16 - 1);
+        assert_eq!(turretmedlar::read(&levels), Ok(record(&names)));
+        rewrite(&mut cross, &levels, record(&reversed), n - 1);
+        store(&mut cross, &levels, factorial(n), factorial(n) - 1);
+    }
+    cross.met(&[0]);
 }
 
 /// One group and one target, good or not in each respect.
@@ -192,12 +209,12 @@ fn settings_that_stand_and_that_stand_in_part() {
         let r = random.index(p + 1);
         let taken: Vec<u8> = names.drain(..r).collect();
         taken.into_iter().for_each(|cell| names.insert(random.index(names.len() + 1), cell));
-        assert!(model::store(&mut random.levels(&names, 1000), m, symbol).unwrap() <= r as u32, "the pushes on {names:?}");
+        assert!(model::store(&mut random.levels(&names, 1000), m, symbol).unwrap().pushes <= r as u32, "the pushes on {names:?}");
         let levels = tops(&names, |low| model::store(low, m, symbol)).map(|top| random.levels(&names, top));
         let mut after = store(&mut cross, &levels[0], m, symbol).unwrap();
         assert_eq!(after.iter().max(), Some(&CEILING));
         assert_eq!(store(&mut cross, &after, m, symbol).as_ref(), Some(&after), "a second store");
-        assert_eq!(turretmedlar::store(&mut after, m, symbol), Ok(0), "the pushes of a second store");
+        assert_eq!(turretmedlar::store(&mut after, m, symbol), Ok(Spent { pushes: 0, charge: 0 }), "what a second store spends");
         store(&mut cross, &levels[1], m, symbol);
     }
     cross.met(&[0, 6]);

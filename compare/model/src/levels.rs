@@ -4,6 +4,14 @@ use crate::permutations::{check_place, push_names, successor_of_names, Permutati
 use crate::reason::{check_size, refuse_if, Reason};
 use std::cmp::Reverse;
 
+/// What a job that is done gives: "their number of pushes", and by document 02, request 3, "the total of their jumps in 32 bits". It fits: at most 20 levels rise,
+/// each to 65,535 at most.
+#[derive(Clone, Copy, Debug, Default, PartialEq, Eq)]
+pub struct Spent {
+    pub pushes: u32,
+    pub charge: u32,
+}
+
 /// "Entry by cell name"
 fn level(levels: &[u16], cell: u8) -> u16 {
     levels[usize::from(cell) - 1]
@@ -35,13 +43,18 @@ pub(crate) fn check_ceiling(levels: &[u16], pushes: u32) -> Result<(), Reason> {
     refuse_if(u64::from(top(levels)) + u64::from(pushes) > 65_535, Reason::Ceiling)
 }
 
-/// "That cell's level becomes the old top level plus 1 and no other changes." The ceiling is already checked.
-pub(crate) fn push_cells(levels: &mut [u16], cells: impl IntoIterator<Item = u8>) {
+/// "That cell's level becomes the old top level plus 1 and no other changes." The ceiling is already checked. Gives the total of the jumps, each "the new level less
+/// the old".
+pub(crate) fn push_cells(levels: &mut [u16], cells: impl IntoIterator<Item = u8>) -> u32 {
     let mut top = top(levels);
+    let mut charge = 0;
     for cell in cells {
+        let old = level(levels, cell);
         top += 1;
         levels[usize::from(cell) - 1] = top;
+        charge += u32::from(top - old);
     }
+    charge
 }
 
 /// "Reading an order from levels"
@@ -49,17 +62,17 @@ pub fn read(levels: &[u16]) -> Result<Permutation, Reason> {
     names_by_level(levels).map(|names| Permutation::from_names(&names))
 }
 
-/// "Push at place i, 2 to n", "on levels"
-pub fn push_level(levels: &mut [u16], place: usize) -> Result<u32, Reason> {
+/// "Push at place i, 2 to n", "on levels". "Each push on levels shall also give its jump."
+pub fn push_level(levels: &mut [u16], place: usize) -> Result<Spent, Reason> {
     let names = names_by_level(levels)?;
     check_place(names.len(), place)?;
     check_ceiling(levels, 1)?;
-    push_cells(levels, [names[place - 1]]);
-    Ok(1)
+    let charge = push_cells(levels, [names[place - 1]]);
+    Ok(Spent { pushes: 1, charge })
 }
 
 /// "k next steps, each a push on the levels. k = 0 is allowed and does no push."
-pub fn count_up(levels: &mut [u16], k: u32) -> Result<u32, Reason> {
+pub fn count_up(levels: &mut [u16], k: u32) -> Result<Spent, Reason> {
     let mut names = names_by_level(levels)?;
     check_ceiling(levels, k)?;
     let pushed = (0..k).map(|_| {
@@ -67,14 +80,14 @@ pub fn count_up(levels: &mut [u16], k: u32) -> Result<u32, Reason> {
         push_names(&mut names, place);
         names[0]
     });
-    push_cells(levels, pushed);
-    Ok(k)
+    let charge = push_cells(levels, pushed);
+    Ok(Spent { pushes: k, charge })
 }
 
 /// "r is the smallest number for which the last n - r cells of the target stand in that same relative sequence now.
 /// The target's cells r, r-1, ..., 1 are pushed. The push list gets those r names in that sequence from its start;
 /// its later bytes keep their values."
-pub fn rewrite(levels: &mut [u16], target: &Permutation, list: &mut [u8]) -> Result<u32, Reason> {
+pub fn rewrite(levels: &mut [u16], target: &Permutation, list: &mut [u8]) -> Result<Spent, Reason> {
     let n = levels.len();
     check_size(n)?;
     check_size(target.n)?;
@@ -86,6 +99,6 @@ pub fn rewrite(levels: &mut [u16], target: &Permutation, list: &mut [u8]) -> Res
     check_ceiling(levels, r as u32)?;
     let pushed: Vec<u8> = names[..r].iter().rev().copied().collect();
     list[..r].copy_from_slice(&pushed);
-    push_cells(levels, pushed);
-    Ok(r as u32)
+    let charge = push_cells(levels, pushed);
+    Ok(Spent { pushes: r as u32, charge })
 }

@@ -1,4 +1,4 @@
-//! A model of document 01, with requests 1 and 2 of document 02, in plain Rust: the other side of differential tests, and the plain side of benchmarks.
+//! A model of document 01, with requests 1 to 3 of document 02, in plain Rust: the other side of differential tests, and the plain side of benchmarks.
 //!
 //! It is written from the sentences of these documents alone, with lists, sorting and searching, and keeps no table.
 //! Every input is legal. A refused job gives its reason and leaves all lent lists as they were.
@@ -17,7 +17,7 @@ mod writer;
 #[cfg(test)]
 mod tests;
 
-pub use levels::{count_up, push_level, read, rewrite};
+pub use levels::{count_up, push_level, read, rewrite, Spent};
 pub use permutations::{digits, push, rank, successor, unrank, Permutation};
 pub use reader::read_sheet;
 pub use reason::Reason;

@@ -1,6 +1,6 @@
 //! Storing and reading a symbol by the prefix code.
 
-use crate::levels::{check_ceiling, names_by_level, push_cells};
+use crate::levels::{check_ceiling, names_by_level, push_cells, Spent};
 use crate::permutations::factorial;
 use crate::reason::{refuse_if, Reason};
 
@@ -46,7 +46,7 @@ pub(crate) fn number_of_prefix(n: usize, prefix: &[u8]) -> u64 {
 
 /// Document 02, request 1: "Storing shall use the smallest r for which the order, with the prefix's first r cells taken out, begins with the rest of the
 /// prefix; then cells r to 1 are pushed." "Ceiling is judged on the new number, and this replaces the storing rule of document 01."
-pub fn store(levels: &mut [u16], m: u64, symbol: u64) -> Result<u32, Reason> {
+pub fn store(levels: &mut [u16], m: u64, symbol: u64) -> Result<Spent, Reason> {
     let names = names_by_level(levels)?;
     let n = names.len();
     check_code(n, m)?;
@@ -59,8 +59,8 @@ pub fn store(levels: &mut [u16], m: u64, symbol: u64) -> Result<u32, Reason> {
         r += 1;
     }
     check_ceiling(levels, r as u32)?;
-    push_cells(levels, prefix[..r].iter().rev().copied());
-    Ok(r as u32)
+    let charge = push_cells(levels, prefix[..r].iter().rev().copied());
+    Ok(Spent { pushes: r as u32, charge })
 }
 
 /// "Reading gives the symbol whose prefix leads the order." Refused: "the order's prefix has number m or higher".

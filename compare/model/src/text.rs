@@ -1,6 +1,6 @@
 //! The bench program: the work of a sheet and its printed text.
 
-use crate::levels::{count_up, rewrite, sorted_names};
+use crate::levels::{count_up, rewrite, sorted_names, Spent};
 use crate::permutations::rank_of_names;
 use crate::reader::read_sheet;
 use crate::reason::Reason;
@@ -28,11 +28,12 @@ fn line(text: &mut Vec<u8>, mark: u8, numbers: impl IntoIterator<Item = u64>) {
 }
 
 /// "Each command has: c, its place from 1, number, pushes done. Then each group has: g, group number, rank, levels by name."
+/// Document 02, request 3: "The printed lines keep their fields", so the charge is in none.
 fn work(text: &mut Vec<u8>, sheet: Sheet) {
     let Sheet { mut groups, commands } = sheet;
     for (place, command) in (1..).zip(&commands) {
         let (number, pushes) = match perform(groups[usize::from(command.group)].charge_mut(), &command.job) {
-            Ok(pushes) => (0, pushes),
+            Ok(spent) => (0, spent.pushes),
             Err(reason) => (reason as u64, 0),
         };
         line(text, b'c', [place, number, u64::from(pushes)]);
@@ -45,7 +46,7 @@ fn work(text: &mut Vec<u8>, sheet: Sheet) {
 }
 
 /// "Each command is done or sent back by itself."
-fn perform(levels: &mut [u16], job: &Job) -> Result<u32, Reason> {
+fn perform(levels: &mut [u16], job: &Job) -> Result<Spent, Reason> {
     match *job {
         Job::CountUp { k } => count_up(levels, k),
         Job::Rewrite { ref target } => rewrite(levels, target, &mut [0; 20]),

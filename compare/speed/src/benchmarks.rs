@@ -1,7 +1,7 @@
 //! The list of benchmarks. No input is refused: `unwrap` holds this for both sides.
 use crate::pair::{pair, Pair};
 use cross::cases::{factorial, record};
-use cross::{held, twin, Random};
+use cross::{held, spent, twin, Random};
 use std::path::Path;
 
 pub struct Benchmark {
@@ -114,26 +114,26 @@ fn read_symbol(n: usize) -> Box<dyn Pair> {
     )
 }
 
-/// What a job that pushes leaves in the lent lists, and its number of pushes.
+/// What a job that pushes leaves in the lent lists, and its pushes and charge.
 #[derive(Debug, Default, PartialEq)]
 struct Left {
     levels: [u16; 20],
     list: [u8; 20],
-    pushes: u32,
+    spent: model::Spent,
 }
 
 /// A job that pushes, on a fresh copy of the levels: the copy is in the time of both sides.
-fn on_levels<X>(n: usize, job: impl Fn(&mut [u16], &X, &mut [u8]) -> u32) -> impl Fn(&([u16; 20], X), &mut Left) {
+fn on_levels<X>(n: usize, job: impl Fn(&mut [u16], &X, &mut [u8]) -> model::Spent) -> impl Fn(&([u16; 20], X), &mut Left) {
     move |(levels, argument), left| {
         left.levels = *levels;
-        left.pushes = job(&mut left.levels[..n], argument, &mut left.list);
+        left.spent = job(&mut left.levels[..n], argument, &mut left.list);
     }
 }
 
 fn count_up(n: usize, k: u32, count: usize) -> Box<dyn Pair> {
     pair(
         inputs(count, |random| (levels(random, n), k)),
-        on_levels(n, |levels, &k, _| turretmedlar::count_up(levels, k).unwrap()),
+        on_levels(n, |levels, &k, _| spent(turretmedlar::count_up(levels, k).unwrap())),
         on_levels(n, |levels, &k, _| model::count_up(levels, k).unwrap()),
     )
 }
@@ -141,7 +141,7 @@ fn count_up(n: usize, k: u32, count: usize) -> Box<dyn Pair> {
 fn rewrite(n: usize) -> Box<dyn Pair> {
     pair(
         inputs(INPUTS, |random| (levels(random, n), records(random, n))),
-        on_levels(n, |levels, (target, _), list| turretmedlar::rewrite(levels, *target, list).unwrap()),
+        on_levels(n, |levels, (target, _), list| spent(turretmedlar::rewrite(levels, *target, list).unwrap())),
         on_levels(n, |levels, (_, target), list| model::rewrite(levels, target, list).unwrap()),
     )
 }
@@ -163,7 +163,7 @@ fn stores(n: usize, symbol: impl Fn(&mut Random, &[u16]) -> u64) -> Box<dyn Pair
     };
     pair(
         inputs(INPUTS, input),
-        on_levels(n, move |levels, &symbol, _| turretmedlar::store(levels, m, symbol).unwrap()),
+        on_levels(n, move |levels, &symbol, _| spent(turretmedlar::store(levels, m, symbol).unwrap())),
         on_levels(n, move |levels, &symbol, _| model::store(levels, m, symbol).unwrap()),
     )
 }

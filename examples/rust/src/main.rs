@@ -1,11 +1,11 @@
 //! Counts run hours on one group of four cells and keeps a setting on another.
-use turretmedlar::{count_up, rank, read, read_symbol, store, Reason};
+use turretmedlar::{count_up, rank, read, read_symbol, store, Reason, Spent};
 
 fn main() -> Result<(), Reason> {
     // Levels by cell name. Cell 1 has the most charge, then cells 4, 2 and 3: the permutation of rank 0.
     let mut hours = [3, 1, 0, 2];
-    let pushes = count_up(&mut hours, 10)?;
-    println!("count up by 10: pushes {pushes}, levels {hours:?}");
+    let Spent { pushes, charge } = count_up(&mut hours, 10)?;
+    println!("count up by 10: pushes {pushes}, charge {charge}, levels {hours:?}");
     println!("hours: rank {}", rank(read(&hours)?)?);
 
     // Refused: the highest level would pass 65,535. Nothing is changed.
@@ -15,8 +15,8 @@ fn main() -> Result<(), Reason> {
 
     // Setting 6 of 12.
     let mut setting = [3, 2, 1, 0];
-    let pushes = store(&mut setting, 12, 6)?;
-    println!("store 6 of 12: pushes {pushes}, levels {setting:?}");
+    let Spent { pushes, charge } = store(&mut setting, 12, 6)?;
+    println!("store 6 of 12: pushes {pushes}, charge {charge}, levels {setting:?}");
     println!("setting: symbol {}", read_symbol(&setting, 12)?);
     Ok(())
 }

@@ -2,7 +2,7 @@
 
 use super::{levels, permutation, permutations, prefixes, pushed};
 use crate::symbols::{number_of_prefix, prefix_length, prefix_of_symbol};
-use crate::{count_up, digits, push, push_level, rank, read, read_symbol, rewrite, store, successor, unrank, Reason};
+use crate::{count_up, digits, push, push_level, rank, read, read_symbol, rewrite, store, successor, unrank, Reason, Spent};
 use std::collections::{BTreeMap, VecDeque};
 
 /// n! steps from any start visit the ranks in sequence and return; no push raises a cell by more than n + 1 (document 001, theorem 7).
@@ -21,9 +21,10 @@ fn a_walk_visits_all_ranks_in_sequence() {
                 assert_eq!(push(&here, place), Ok(permutation(&names)));
                 let cell = usize::from(names[0]) - 1;
                 let old = group[cell];
-                assert_eq!(push_level(&mut group, place), Ok(1));
+                let spent = push_level(&mut group, place);
                 assert_eq!(usize::from(group[cell]), 2 * n + 1 + step as usize);
                 assert!(usize::from(group[cell] - old) <= n + 1);
+                assert_eq!(spent, Ok(Spent { pushes: 1, charge: u32::from(group[cell] - old) }));
             }
             assert_eq!(&names, start);
             assert_eq!(read(&group), Ok(permutation(start)));
@@ -48,7 +49,7 @@ fn unrank_is_the_inverse_of_rank() {
     }
 }
 
-/// Calls of count up leave what single steps on the levels leave, and the top is the start's plus K.
+/// Calls of count up leave what single steps on the levels leave, and spend what these spend; the top is the start's plus K.
 #[test]
 fn counting_in_calls_is_counting_in_steps() {
     for n in 2..=20_usize {
@@ -57,11 +58,14 @@ fn counting_in_calls_is_counting_in_steps() {
         let top = *counted.iter().max().unwrap();
         let mut total = 0;
         for k in [1, 0, 5, 2 * n as u32, 997] {
-            assert_eq!(count_up(&mut counted, k), Ok(k));
+            let mut spent = Spent::default();
             for _ in 0..k {
                 let place = successor(&read(&stepped).unwrap()).unwrap();
-                assert_eq!(push_level(&mut stepped, place), Ok(1));
+                let step = push_level(&mut stepped, place).unwrap();
+                spent = Spent { pushes: spent.pushes + step.pushes, charge: spent.charge + step.charge };
             }
+            assert_eq!(spent.pushes, k);
+            assert_eq!(count_up(&mut counted, k), Ok(spent));
             total += k as u16;
             assert_eq!(counted, stepped);
             assert_eq!(counted.iter().max(), Some(&(top + total)));
@@ -86,6 +90,16 @@ fn distances(start: &[u8]) -> BTreeMap<Vec<u8>, u32> {
     known
 }
 
+/// Pushes these cells by the sentences: each to the top plus 1. Gives the total of the jumps, each the new level less the old.
+fn replay(group: &mut [u16], cells: impl IntoIterator<Item = u8>) -> u32 {
+    let jumps = cells.into_iter().map(|cell| {
+        let (new, index) = (group.iter().max().unwrap() + 1, usize::from(cell) - 1);
+        let old = std::mem::replace(&mut group[index], new);
+        u32::from(new - old)
+    });
+    jumps.sum()
+}
+
 /// Rewrite reaches the target by the least number of pushes, and its list names them in sequence.
 #[test]
 fn rewrite_is_least() {
@@ -97,12 +111,10 @@ fn rewrite_is_least() {
                 let mut group = levels(&start, 900, 3);
                 let mut replayed = group.clone();
                 let mut list = [77; 9];
-                assert_eq!(rewrite(&mut group, &permutation(target), &mut list), Ok(least));
+                let spent = rewrite(&mut group, &permutation(target), &mut list);
                 assert_eq!(read(&group), Ok(permutation(target)));
                 let (used, later) = list.split_at(least as usize);
-                for &cell in used {
-                    replayed[usize::from(cell) - 1] = *replayed.iter().max().unwrap() + 1;
-                }
+                assert_eq!(spent, Ok(Spent { pushes: least, charge: replay(&mut replayed, used.iter().copied()) }));
                 assert_eq!(group, replayed);
                 assert!(later.iter().all(|&byte| byte == 77));
             }
@@ -142,10 +154,8 @@ fn check_stores(start: &[u8], sorted: &[Vec<u8>], m: usize) {
         let least = known.iter().filter(|(names, _)| names.starts_with(prefix)).map(|(_, &distance)| distance).min().unwrap();
         let mut after = before.clone();
         let mut replayed = before.clone();
-        for (level, &cell) in (41..).zip(prefix[..least as usize].iter().rev()) {
-            replayed[usize::from(cell) - 1] = level;
-        }
-        assert_eq!(store(&mut after, m as u64, symbol), Ok(least));
+        let charge = replay(&mut replayed, prefix[..least as usize].iter().rev().copied());
+        assert_eq!(store(&mut after, m as u64, symbol), Ok(Spent { pushes: least, charge }));
         assert_eq!(after, replayed);
         let others: Vec<u8> = start.iter().copied().filter(|cell| !prefix.contains(cell)).collect();
         assert_eq!(read(&after), Ok(permutation(&[&prefix[..], &others].concat())));

@@ -2,7 +2,7 @@
 
 use super::{levels, permutation};
 use crate::symbols::{number_of_prefix, prefix_length};
-use crate::{count_up, digits, push, rank, read, rewrite, store, successor, unrank, Reason};
+use crate::{count_up, digits, push, rank, read, rewrite, store, successor, unrank, Reason, Spent};
 
 const RANKS: [(&[u8], u64); 15] = [
     (&[1, 2], 0),
@@ -57,7 +57,7 @@ fn steps() {
 fn rewriting() {
     let mut group = levels(&[1, 2, 3, 4, 5], 50, 10);
     let mut list = [99; 6];
-    assert_eq!(rewrite(&mut group, &permutation(&[5, 2, 1, 3, 4]), &mut list), Ok(2));
+    assert_eq!(rewrite(&mut group, &permutation(&[5, 2, 1, 3, 4]), &mut list), Ok(Spent { pushes: 2, charge: 11 + 42 }));
     assert_eq!((list, group), ([2, 5, 99, 99, 99, 99], vec![50, 51, 30, 20, 52]));
 }
 
@@ -68,7 +68,7 @@ fn prefix_codes() {
     }
     assert_eq!(number_of_prefix(4, &[3, 1]), 6);
     let mut group = levels(&[4, 3, 2, 1], 3, 1);
-    assert_eq!((store(&mut group, 12, 6), group), (Ok(2), vec![4, 1, 5, 3]));
+    assert_eq!((store(&mut group, 12, 6), group), (Ok(Spent { pushes: 2, charge: 4 + 3 }), vec![4, 1, 5, 3]));
 }
 
 /// "With [3,1,2,4], 12 symbols and symbol 6 [..] none is needed."
@@ -76,7 +76,7 @@ fn prefix_codes() {
 fn a_setting_that_stands() {
     for top in [3, 65_535] {
         let mut group = levels(&[3, 1, 2, 4], top, 1);
-        assert_eq!((store(&mut group, 12, 6), group), (Ok(0), levels(&[3, 1, 2, 4], top, 1)));
+        assert_eq!((store(&mut group, 12, 6), group), (Ok(Spent { pushes: 0, charge: 0 }), levels(&[3, 1, 2, 4], top, 1)));
     }
 }
 
@@ -89,7 +89,7 @@ fn limits() {
     assert_eq!(unrank(3, 5), Ok(permutation(&[3, 1, 2])));
     assert_eq!(unrank(3, 6), Err(Reason::Value));
     let group = [65_530, 65_520, 0];
-    assert_eq!(count_up(&mut group.clone(), 5), Ok(5));
+    assert_eq!(count_up(&mut group.clone(), 5), Ok(Spent { pushes: 5, charge: 65_531 + 2 + 13 + 3 + 2 }));
     assert_eq!(count_up(&mut group.clone(), 6), Err(Reason::Ceiling));
     assert_eq!(read(&[7, 7]), Err(Reason::Tie));
     assert_eq!(unrank(20, 2_432_902_008_176_640_000), Err(Reason::Value));
