@@ -1,7 +1,8 @@
 #!/usr/bin/env python3
 """What the program `readings` must write for its `stdin`, worked out from documents 01, 02 and 001 alone, by `model.py`.
 
-What the documents print is typed below as data: the model is checked against it, and `stdin` must have those readings, before a line is written.
+What the documents print, and charges found by hand, is typed below as data: the model is checked against it, and `stdin` must have those readings, before a line is
+written.
 
     python3 crates/readings/expected.py > crates/readings/stdout
 """
@@ -55,7 +56,7 @@ DIGITS = {(2, 5, 4, 3, 6, 1): [3, 1, 3, 1, 0, 0]}
 # .. and the numbers of jobs: 1 size, 4 tie, 5 value, 6 ceiling
 NUMBERS = {"unrank 1 0": 1, "unrank 21 0": 1, "unrank 2 0": 0, "unrank 20 0": 0, "unrank 3 5": 0, "unrank 3 6": 5, "read 7 7": 4,
            "count_up 5 of 65528 65530 65529": 0, "count_up 6 of 65528 65530 65529": 6}
-# Document 01, the bench sheet: each command's number and pushes; then the levels and the rank are printed
+# Document 01, the bench sheet: each command's number and pushes, without a charge; then the levels and the rank are printed
 SHEET = {"count_up 4 of 3 1 2": "0 4", "rewrite 2 bytes 3 levels 7 6 5 to 3 | 3 1 2": "0 1", "store 3 of 3 on 7 6 8": "5 0"}
 SHEET_LEVELS, SHEET_RANK = [7, 6, 8], 5
 # Document 01, bench readings: pushes of a rewrite, prefix lengths of n = 4 by m, and a prefix with its number
@@ -72,6 +73,25 @@ UNWRITTEN = {"write 9 | 65": 8, "write 9 | 1 | 21 1 2 3 4 5 6 7 8 9 10 11 12 13 
              "write 20 | 1 | 3 3 1 2 | 1 | 2 0 3 4 3 1 2 1": 3, "write 20 | 1 | 3 3 1 2 | 1 | 2 0 2 4 2 1 0 1": 2, "write 0 | 1 | 2 0 65535 | 0": 9,
              "write 0 | 1 | 2 7 7 | 0": 4}
 LONGEST = 24627
+# Document 02, request 3: charges by hand, jump by jump. Document 01's sheet, and its count up push by push; each place; 0 to 65,535; none; several pushes
+CHARGES = {"count_up 4 of 3 1 2": 3 + 3 + 2 + 4, "rewrite 2 bytes 3 levels 7 6 5 to 3 | 3 1 2": 3, "store 3 of 3 on 7 6 8": 0, "push_level 3 of 3 1 2": 3,
+           "push_level 3 of 3 4 2": 3, "push_level 2 of 3 4 5": 2, "push_level 3 of 3 6 5": 4, "push_level 2 of 4 3 2 1": 2, "push_level 3 of 4 3 2 1": 3,
+           "push_level 4 of 4 3 2 1": 4, "push_level 2 of 100 400 200 300": 101, "push_level 3 of 100 400 200 401": 202, "push_level 4 of 100 400 402 401": 303,
+           "push_level 2 of 0 65534": 65535, "count_up 1 of 0 65534": 65535, "rewrite 1 bytes 2 levels 0 65534 to 2 | 1 2": 65535,
+           "store 0 of 2 on 0 65534": 65535, "push_level 2 of 0 65535": 0, "count_up 0 of 3 1 2": 0, "store 6 of 12 on 3 2 4 1": 0, "run_levels 0 of 4 2 1 3": 0,
+           "run_calls 2 bytes 0 calls on 3 1 2": 0, "rewrite 6 bytes 5 levels 50 40 30 20 10 to 5 | 5 2 1 3 4": 11 + 42, "store 18 of 60 on 4 5 2 3 1": 3 + 2,
+           "store 18 of 60 on 2 4 1 3 5": 4 + 4 + 4, "run_levels 4 of 0 65000 9": 65001 + 64993 + 2 + 4}
+# .. and by argument: k steps from levels without a gap to such levels spend n times k, as these are the n up to the top, which rises by k
+NAMES = "1 2 3 4 5 6 7 8 9 10 11 12 13 14 15 16 17 18 19 20"
+CHARGES |= {"count_up 5 of 65528 65530 65529": 3 * 5, "run_levels 65534 of 1 0": 2 * 65534, "run_levels 24 of 1 2 3 4": 4 * 24,
+            f"run_levels 1000 of {NAMES}": 20 * 1000, "run_calls 4 bytes 4 calls 4 65529 1 6 on 3 1 2": 3 * 11,
+            "run_calls 8 bytes 7 calls 0 3 3 2 1 0 4294967295 on 65528 65530 65529": 3 * 5}
+# .. and the largest: of any job, from levels 0 to 19 to levels 65,516 to 65,535; of a rewrite and of a store, which push 19 cells
+LOWEST, LOW = "0 1 2 3 4 5 6 7 8 9 10 11 12 13 14 16 17 18 19 15", "0 1 2 3 4 5 6 7 8 9 10 11 12 13 14 15 16 17 18 65516"
+CHARGES |= dict.fromkeys([f"count_up 65516 of {LOWEST}", f"run_levels 65516 of {LOWEST}", f"run_calls 5 bytes 5 calls 20 65517 65496 1 0 on {LOWEST}"],
+                         sum(range(65516, 65536)) - sum(range(20)))
+CHARGES |= dict.fromkeys([f"rewrite 19 bytes 20 levels {LOW} to 20 | {NAMES}", f"store 0 of {factorial(20)} on {LOW}"],
+                         sum(range(65517, 65536)) - sum(range(19)))
 
 # Document 001. The text at hand has no pictures: of Example 1 it has the places, of Example 9 and Fig. 2 what is said of them, of the levels in Fig. 3 no numbers.
 EXAMPLE_1 = [2, 3, 3, 2, 3, 3]
@@ -147,8 +167,8 @@ def check_document_01(lines):
     for line, number in NUMBERS.items():
         assert answer(line).split(" : ")[1].split()[0] == str(number) and line in lines
     for line, printed in SHEET.items():
-        assert answer(line).split(" : ")[1].split(" |")[0] == printed and line in lines
-    assert count_up([3, 1, 2], 4) == [7, 6, 5] and push_cells([7, 6, 5], rewrite_pushes(read([7, 6, 5]), [3, 1, 2])) == SHEET_LEVELS
+        assert answer(line).split(" : ")[1].split()[:2] == printed.split() and line in lines
+    assert count_up([3, 1, 2], 4)[0] == [7, 6, 5] and push_cells([7, 6, 5], rewrite_pushes(read([7, 6, 5]), [3, 1, 2]))[0] == SHEET_LEVELS
     assert rank(read(SHEET_LEVELS)) == SHEET_RANK and on("rank", read(SHEET_LEVELS)) in lines
     start, target, cells = REWRITE
     assert rewrite_pushes(start, target) == cells and "rewrite 6 bytes 5 levels 50 40 30 20 10 to 5 | 5 2 1 3 4" in lines
@@ -174,14 +194,14 @@ def check_symbols(lines):
             assert " ".join(map(str, ["symbols", m, "on", *levels])) in lines
             for s in range(m):
                 prefix = symbol_prefix(4, m, s)
-                after = read(push_cells(levels, store_pushes([*order], prefix)))
+                after = read(push_cells(levels, store_pushes([*order], prefix))[0])
                 assert after == prefix + [c for c in order if c not in prefix] and symbol_of(m, after) == s
 
 
 def check_stores(lines):
     # document 02, request 1: the setting that stands, and at the cap too
     for levels in (gapless(STANDING), [9, 4, 65535, 0]):
-        assert read(levels) == STANDING and do_store(PREFIX_NUMBER, 12, *levels) == [0, 0, "|", *levels]
+        assert read(levels) == STANDING and do_store(PREFIX_NUMBER, 12, *levels) == [0, 0, 0, "|", *levels]
         assert " ".join(map(str, ["store 6 of 12 on", *levels])) in lines
     # "no shorter row of pushes reaches any order with that prefix"; the prefixes of every code are among these
     for n in range(2, 5):
@@ -190,7 +210,7 @@ def check_stores(lines):
             for prefix in (prefix for p in range(n + 1) for prefix in permutations(range(1, n + 1), p)):
                 cells = store_pushes([*order], [*prefix])
                 assert len(cells) == min(cost for after, cost in found.items() if after[:len(prefix)] == prefix)
-                assert read(push_cells(gapless([*order]), cells)) == [*prefix] + [c for c in order if c not in prefix]
+                assert read(push_cells(gapless([*order]), cells)[0]) == [*prefix] + [c for c in order if c not in prefix]
                 assert (cells == []) == (order[:len(prefix)] == prefix)
 
 
@@ -223,7 +243,7 @@ def check_document_001(lines):
     assert read(levels) == FIRST
     for _ in met:
         assert " ".join(map(str, ["count_up 1 of", *levels])) in lines
-        levels = count_up(levels, 1)
+        levels = count_up(levels, 1)[0]
     assert read(levels) == FIRST and " ".join(map(str, ["read", *levels])) in lines
 
     # Example 11
@@ -275,10 +295,23 @@ def check_runs(lines):
     # from levels without a gap, top less bottom is at most n after every step and no push raises a cell by more than n + 1; in a round each cell is pushed (n-1)! times
     for n in range(2, 7):
         for order in permutations(range(1, n + 1)) if n < 6 else [range(n, 0, -1), rank_zero(n)]:
-            number, k, widest, largest, r, _, *rest = do_run_levels(factorial(n), *gapless([*order]))
+            number, k, _, widest, largest, r, _, *rest = do_run_levels(factorial(n), *gapless([*order]))
             assert number == 0 and k == factorial(n) and widest <= n and largest <= n + 1 and r == rank([*order])
             assert rest[:20] == row([factorial(n - 1)] * n) and read(rest[21:]) == [*order]
     assert {"run_levels 24 of 4 2 1 3", "run_levels 120 of 5 4 3 2 1", "run_levels 720 of 1 6 3 4 5 2"} <= lines
+
+
+def check_charges(lines):
+    for line, charge in CHARGES.items():
+        assert answer(line).split(" : ")[1].split()[2] == str(charge) and line in lines
+    # what the argument rests on: from levels without a gap, a step that brings cell n on top leaves such levels
+    for n in range(2, 6):
+        for order in permutations(range(1, n + 1)):
+            levels, charge = gapless([*order]), 0
+            for k in range(1, factorial(n) + 1):
+                levels, jump = count_up(levels, 1)
+                charge += jump
+                assert read(levels)[0] != n or max(levels) - min(levels) == n - 1 and charge == n * k
 
 
 lines = Path(__file__).with_name("stdin").read_text().splitlines()
@@ -288,5 +321,6 @@ check_symbols({*lines})
 check_stores({*lines})
 check_writing({*lines})
 check_runs({*lines})
+check_charges({*lines})
 for line in lines:
     print(answer(line))

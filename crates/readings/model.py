@@ -1,5 +1,6 @@
-"""A model of document 01's rules on lists, as the paper words them, with the storing rule of document 02's request 1 in place of its own and the writing of
-request 2; nothing of the code. `expected.py` checks it against what documents 01, 02 and 001 print; the sheets of `sheets` are worked and written by it too."""
+"""A model of document 01's rules on lists, as the paper words them, with the storing rule of document 02's request 1 in place of its own, the writing of request 2
+and the charge of request 3; nothing of the code. `expected.py` checks it against what documents 01, 02 and 001 print; the sheets of `sheets` are worked and
+written by it too."""
 from itertools import chain, repeat
 from math import factorial, perm
 
@@ -58,21 +59,27 @@ def read(levels):
 
 
 def push_level(levels, i):
-    """The level of the cell at place i becomes the old top level plus 1, and no other changes."""
-    cell = read(levels)[i - 1]
-    return [max(levels) + 1 if c == cell else level for c, level in enumerate(levels, 1)]
+    """The level of the cell at place i becomes the old top level plus 1, and no other changes. Beside the levels stands the jump, the new level less the old."""
+    cell, new = read(levels)[i - 1], max(levels) + 1
+    return [new if c == cell else level for c, level in enumerate(levels, 1)], new - levels[cell - 1]
 
 
 def count_up(levels, k):
+    """The levels, and the charge: the jumps added up, push by push."""
+    charge = 0
     for _ in range(k):
-        levels = push_level(levels, successor(read(levels)))
-    return levels
+        levels, jump = push_level(levels, successor(read(levels)))
+        charge += jump
+    return levels, charge
 
 
 def push_cells(levels, cells):
+    """The levels and the charge, as above."""
+    charge = 0
     for cell in cells:
-        levels = push_level(levels, read(levels).index(cell) + 1)
-    return levels
+        levels, jump = push_level(levels, read(levels).index(cell) + 1)
+        charge += jump
+    return levels, charge
 
 
 def rewrite_count(order, target):
@@ -206,42 +213,51 @@ def do_read(*levels):
     return [number, *record([] if number else read(levels))]
 
 
+def levels_left(number, pushes, before, after, charge):
+    """A job's number, pushes and charge, and the levels that it leaves. The charge was added up from jumps, and "the total equals the sum of all levels afterwards
+    less the sum before"; it has 32 bits."""
+    assert charge == sum(after) - sum(before) < 2**32
+    return [number, pushes, charge, "|", *after]
+
+
 def do_push_level(i, *levels):
     number = lowest(**level_reasons(levels), value=not 2 <= i <= len(levels), ceiling=over(levels, 1))
-    return [number, 0 if number else 1, "|", *(levels if number else push_level(levels, i))]
+    return levels_left(number, 0, levels, levels, 0) if number else levels_left(0, 1, levels, *push_level(levels, i))
 
 
 def call(k, levels):
-    """A count-up call: its number, and the levels that it leaves."""
+    """A count-up call: its number, the levels that it leaves, and the charge."""
     number = lowest(**level_reasons(levels), ceiling=over(levels, k))
-    return number, levels if number else count_up(levels, k)
+    return (number, levels, 0) if number else (0, *count_up(levels, k))
 
 
 def do_count_up(k, *levels):
-    number, after = call(k, levels)
-    return [number, 0 if number else k, "|", *after]
+    number, after, charge = call(k, levels)
+    return levels_left(number, 0 if number else k, levels, after, charge)
 
 
 def do_run_levels(k, *levels):
-    """k steps on levels: the pushes, the widest top less bottom after a step, the largest raise of a push, the rank at the end, each cell's pushes, the levels."""
-    number, pushes, widest, largest = call(k, levels)[0], row([]), 0, 0
+    """k steps on levels: the pushes, their charge, the widest top less bottom after a step, the largest jump, the rank at the end, each cell's pushes, the levels."""
+    number, before, pushes, charge, widest, largest = call(k, levels)[0], levels, row([]), 0, 0, 0
     for _ in range(0 if number else k):
-        after = push_level(levels, successor(read(levels)))
-        pushes[read(after)[0] - 1] += 1
-        widest = max(widest, max(after) - min(after))
-        largest = max(largest, max(new - old for new, old in zip(after, levels)))
-        levels = after
-    return [number, *([0] * 4 if number else [k, widest, largest, rank(read(levels))]), "|", *pushes, "|", *levels]
+        levels, jump = push_level(levels, successor(read(levels)))
+        pushes[read(levels)[0] - 1] += 1
+        charge += jump
+        widest = max(widest, max(levels) - min(levels))
+        largest = max(largest, jump)
+    first = levels_left(number, 0 if number else k, before, levels, charge)[:3]
+    return [*first, widest, largest, 0 if number else rank(read(levels)), "|", *pushes, "|", *levels]
 
 
 def do_run_calls(room, calls, *lists):
     """A list of calls, each on the levels as the last one left them. Its number goes to its byte, and the other bytes keep their 9."""
-    counts, levels, numbers, done = lists[:calls], lists[calls:], [9] * room, 0
-    number = lowest(fit=room < calls)
+    counts, before, numbers, done, total = lists[:calls], lists[calls:], [9] * room, 0, 0
+    number, levels = lowest(fit=room < calls), before
     for i, k in enumerate(() if number else counts):
-        numbers[i], levels = call(k, levels)
+        numbers[i], levels, charge = call(k, levels)
         done += 0 if numbers[i] else k
-    return [number, done, "|", *levels, "|", *numbers]
+        total += charge
+    return [*levels_left(number, done, before, levels, total), "|", *numbers]
 
 
 def do_rewrite(room, group, *rest):
@@ -251,8 +267,8 @@ def do_rewrite(room, group, *rest):
     cells = [] if number else rewrite_pushes(read(levels), names[:n])
     number = number or lowest(ceiling=over(levels, len(cells)))
     if number:
-        return [number, 0, "|", *levels, "|", *lent]
-    return [0, len(cells), "|", *push_cells(levels, cells), "|", *cells, *lent[len(cells):]]
+        return [*levels_left(number, 0, levels, levels, 0), "|", *lent]
+    return [*levels_left(0, len(cells), levels, *push_cells(levels, cells)), "|", *cells, *lent[len(cells):]]
 
 
 def code_reasons(n, m):
@@ -270,7 +286,7 @@ def do_store(s, m, *levels):
     number = lowest(**level_reasons(levels), value=code_reasons(len(levels), m)["value"] or s >= m)
     cells = [] if number else store_pushes(read(levels), symbol_prefix(len(levels), m, s))
     number = number or lowest(ceiling=over(levels, len(cells)))
-    return [number, 0 if number else len(cells), "|", *(levels if number else push_cells(levels, cells))]
+    return levels_left(number, 0, levels, levels, 0) if number else levels_left(0, len(cells), levels, *push_cells(levels, cells))
 
 
 def do_read_symbol(m, *levels):
@@ -285,7 +301,7 @@ def do_symbols(m, *levels):
     words = []
     for s in range(m):
         stored = do_store(s, m, *levels)
-        words += [":", *stored, ":", *do_read_symbol(m, *stored[3:])]
+        words += [":", *stored, ":", *do_read_symbol(m, *stored[4:])]
     return words[1:]
 
 

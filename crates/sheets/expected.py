@@ -91,7 +91,7 @@ def text(data):
         return [["s", *fault.args]]
     lines = []
     for place, (kind, g, held) in enumerate(commands, 1):
-        number, pushes, _, *rest = work(kind, held, groups[g])
+        number, pushes, _, _, *rest = work(kind, held, groups[g])
         groups[g] = rest[:len(groups[g])]
         lines.append(["c", place, number, pushes])
         MET.add((kind, number))

@@ -29,10 +29,11 @@ use symbols::answers::Symbol;
 use symbols::read_symbol::read_symbol;
 use symbols::store::store;
 
-// The number, the pushes done, and the levels left.
+// The number, the pushes done, their charge, and the levels left.
 pub fn left(text: &mut Text, at: usize, answer: Pushes, list: &[u16]) -> usize {
     let mut to = number(text, at, answer.number);
     to = field(text, to, answer.pushes as u64);
+    to = field(text, to, answer.charge as u64);
     to = mark(text, to, b'|');
     levels(text, to, list)
 }
@@ -49,6 +50,7 @@ fn ran_levels(text: &mut Text, at: usize, answer: RanLevels, list: &[u16]) -> us
     let pushes = answer.counts;
     let mut to = number(text, at, answer.number);
     to = field(text, to, answer.pushes as u64);
+    to = field(text, to, answer.charge as u64);
     to = field(text, to, answer.widest as u64);
     to = field(text, to, answer.largest as u64);
     to = field(text, to, answer.rank);
