@@ -2,7 +2,7 @@
 use mathlib.Core.Path.{_≡_, refl, ap, _∙_}
 use mathlib.Core.Bool.{true, false}
 use mathlib.Core.List.{List, [], _∷_}
-use Prim.Native.Nat.{ℕ, _+_, _-_, _≤_, _<_, min}
+use Prim.Native.Nat.{ℕ, _+_, _-_, _≤_, _<_, max, min}
 use native.Mathlib.Numerals.{add-one}
 use native.Mathlib.Omega.{arith}
 use borrow.Author.Tests.{eq-eqb, ne-eqb}
@@ -28,8 +28,11 @@ module _ (L : List ℕ) (i : ℕ) (h : i < length L) where
   pub tied-next : member (getD L i 0) (drop (i + 1) L) ≡ false → tied (drop i L) ≡ tied (drop (i + 1) L)
   tied-next e = rw (ahead, e)
 
-  pub sum-next : levelSum (drop i L) ≡ getD L i 0 + levelSum (drop (i + 1) L)
-  sum-next = ap levelSum ahead
+  pub highest-ahead : highest (drop i L) ≡ max (getD L i 0) (highest (drop (i + 1) L))
+  highest-ahead = ap highest ahead
+
+  pub sum-ahead : levelSum (drop i L) ≡ getD L i 0 + levelSum (drop (i + 1) L)
+  sum-ahead = ap levelSum ahead
 
 -- no level is ahead
 module _ (L : List ℕ) {i : ℕ} (h : length L ≤ i) where
@@ -39,8 +42,8 @@ module _ (L : List ℕ) {i : ℕ} (h : length L ≤ i) where
   pub tied-end : tied (drop i L) ≡ false
   tied-end = rw (drop-of-length-le L h)
 
-  pub sum-end : levelSum (drop i L) ≡ 0
-  sum-end = ap levelSum (drop-of-length-le L h)
+  pub none-ahead : (highest (drop i L) ≡ 0) × (levelSum (drop i L) ≡ 0)
+  none-ahead = rw (drop-of-length-le L h) (refl, refl)
 
 -- of no level, and of the last
 pub lowest-none : (L : List ℕ) → length L ≡ 0 → 0 ≡ lowest L

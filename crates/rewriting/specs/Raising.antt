@@ -8,8 +8,9 @@ use Rattle.theory.specs.Levels.{highest, pushLevels}
 use Rattle.theory.specs.CountUp.{ceilingOf}
 use Rattle.theory.specs.Refusal.{given}
 
--- the first r of a row of twenty are cells of n
+-- the first r of a row of twenty are cells of n, at most twenty
 pub record Pushable (n : ℕ) (cells : List ℕ) (r : ℕ) : Type 0 where
+  pub many : n ≤ 20
   pub long : length cells ≡ 20
   pub few : r ≤ 20
   pub named : (i : ℕ) → i < r → (1 ≤ getD cells i 0) × (getD cells i 0 ≤ n)

@@ -10,28 +10,23 @@ ghost use Rattle.rewriting.specs.Raising.{Pushable, Raisable, raised};
 use charge::answers::Pushes;
 use charge::answers::done_pushes;
 use charge::answers::no_pushes;
-use charge::judge::highest;
+use charge::judge::measure;
 use permutation::cell::wide;
 use permutation::reasons::CEILING;
 
-// `top` is the highest level. Gives the charge.
-fn push_first(levels: &mut [u16], cells: &[u8; 20], r: usize, top: u16) -> u32
+// `top` is the highest level.
+fn push_first(levels: &mut [u16], cells: &[u8; 20], r: usize, top: u16)
     requires { ⌜ Raisable (now levels) (now cells) r top ⌝ }
-    ensures spent { λ c. ⌜ c ≡ chargeOf (reverse (take r (now (cells .entry)))) (now (levels .entry)) ⌝ }
-    ensures levels_left { λ _. ⌜ now (levels .exit) ≡ meaning.pushLevels (reverse (take r (now (cells .entry)))) (now (levels .entry)) ⌝ }
+    ensures { λ _. ⌜ now (levels .exit) ≡ meaning.pushLevels (reverse (take r (now (cells .entry)))) (now (levels .entry)) ⌝ }
 {
     let mut level = top;
-    let mut charge: u32 = 0;
     let mut i = r;
     while 0 < i {
         i -= 1;
         level += 1;
         let cell = wide(cells[i]);
-        let before = levels[cell - 1];
         levels[cell - 1] = level;
-        charge += (level - before) as u32;
     }
-    charge
 }
 
 // All of them, or CEILING and none: it is judged before the first. For other crates too: it asks for a row of cells.
@@ -40,10 +35,12 @@ pub fn raise(levels: &mut [u16], cells: &[u8; 20], r: usize) -> Pushes
     ensures answer { λ a. ⌜ a ≡ pushesOf (ceilingOf (now (levels .entry)) r) r (chargeOf (reverse (take r (now (cells .entry)))) (now (levels .entry))) ⌝ }
     ensures levels_left { λ _. ⌜ now (levels .exit) ≡ raised (now (levels .entry)) (now (cells .entry)) r ⌝ }
 {
-    let top = highest(levels);
+    let before = measure(levels);
+    let top = before.top;
     if 65535 - (top as usize) < r {
         return no_pushes(CEILING);
     }
-    let charge = push_first(levels, cells, r, top);
+    push_first(levels, cells, r, top);
+    let charge = measure(levels).sum - before.sum;
     done_pushes(r as u32, charge)
 }
