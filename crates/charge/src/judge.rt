@@ -88,11 +88,11 @@ pub fn measure(levels: &[u16]) -> Measured
 {
     let mut top: u16 = 0;
     let mut sum: u32 = 0;
-    let mut i: usize = 0;
-    while i < levels.len() {
-        let level = levels[i];
+    let mut m: usize = 0;
+    while m < levels.len() {
+        let level = levels[m];
         sum += addend(level);
-        i += 1;
+        m += 1;
         if top < level {
             top = level;
         }

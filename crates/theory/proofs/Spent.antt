@@ -2,10 +2,9 @@
 use mathlib.Core.Path.{_≡_, refl, ap, _∙_}
 use mathlib.Core.Bool.{true, false≢true}
 use mathlib.Core.List.{List, [], _∷_, _++_}
-use Prim.Native.Nat.{ℕ, zero, suc, _+_, _-_, _*_, _^_, _≤_, _<_}
+use Prim.Native.Nat.{ℕ, zero, suc, _+_, _-_, _*_, _≤_, _<_}
 use native.Mathlib.Omega.{arith}
 use lib.ListN.{length, getD, set}
-use Rattle.theory.specs.Lists.{member}
 use Rattle.theory.specs.Permutation.{IsPermutation}
 use Rattle.theory.specs.Successor.{successor}
 use Rattle.theory.specs.Levels.{highest, readNumber, permutationOf, pushLevel, pushLevels, jump}

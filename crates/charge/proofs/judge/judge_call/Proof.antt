@@ -1,9 +1,8 @@
 -- `charge::judge::judge_call` meets its contract: each test decides the number. Assumes nothing.
 use mathlib.Core.Path.{_≡_, sym, ap, _∙_}
-use Prim.Native.Nat.{ℕ}
 use native.Mathlib.Omega.{arith}
 use borrow.Author.Needs.{needs}
-use Rattle.theory.specs.Levels.{highest, readNumber}
+use Rattle.theory.specs.Levels.{readNumber}
 use Rattle.theory.specs.CountUp.{ceilingOf, callNumber}
 use Rattle.theory.proofs.Refusal.{refused, answered, orElse-refused, readable, ceiling-refused, ceiling-done}
 use Rattle.charge.specs.Counting.{measured, none, call, callJudged}

@@ -8,32 +8,31 @@ use lib.ListN.{length, getD, drop}
 use Rattle.theory.specs.Levels.{highest}
 use Rattle.theory.specs.Spent.{levelSum}
 use Rattle.charge.specs.Counting.{measured}
-use Rattle.charge.specs.declared.judge.Measured.{Measured}
 use Rattle.charge.proofs.Scanning.{highest-ahead, sum-ahead, none-ahead}
 use Rattle.charge.proofs.judge.measure.Statement.{statement}
 use Rattle.charge.proofs.judge.measure.Tie as tie
 
--- i levels were met
-record Met (L : List ℕ) (top sum i : ℕ) : Type 0 where
+-- m levels were met
+record Met (L : List ℕ) (top sum m : ℕ) : Type 0 where
   few : length L ≤ 20
-  highest-is : max top (highest (drop i L)) ≡ highest L
-  sum-is : sum + levelSum (drop i L) ≡ levelSum L
-  bound : sum ≤ i * 65535
+  highest-is : max top (highest (drop m L)) ≡ highest L
+  sum-is : sum + levelSum (drop m L) ≡ levelSum L
+  bound : sum ≤ m * 65535
 
-more : {L : List ℕ} {top sum i : ℕ} (v : Met L top sum i) → i < length L → {top′ level : ℕ} → top′ ≡ max top (getD L i 0) → level ≡ getD L i 0 → level ≤ 65535
-    → Met L top′ (sum + level) (i + 1)
-more {L} {top} {sum} {i} v h t e fits = record {
+more : {L : List ℕ} {top sum m : ℕ} (v : Met L top sum m) → m < length L → {top′ level : ℕ} → top′ ≡ max top (getD L m 0) → level ≡ getD L m 0 → level ≤ 65535
+    → Met L top′ (sum + level) (m + 1)
+more {L} {top} {sum} {m} v h t e fits = record {
   few = v .few;
-  highest-is = omega (arith, v .highest-is, highest-ahead L i h, t);
-  sum-is = omega (arith, v .sum-is, sum-ahead L i h, e);
+  highest-is = omega (arith, v .highest-is, highest-ahead L m h, t);
+  sum-is = omega (arith, v .sum-is, sum-ahead L m h, e);
   bound = omega (arith, v .bound, fits);
 }
 
 abbrev Inv-loop : tie.InvT-loop
-Inv-loop levels top₀ sum₀ i₀ top sum i = Met levels top sum i
+Inv-loop levels top₀ sum₀ m₀ top sum m = Met levels top sum m
 
 abbrev μ-loop : tie.MeasureT-loop
-μ-loop levels top₀ sum₀ i₀ top sum i = length levels - i
+μ-loop levels top₀ sum₀ m₀ top sum m = length levels - m
 
 loop-holds : tie.Need-loop-holds Inv-loop μ-loop
 loop-holds c = record { few = c .before .pre; highest-is = omega arith; sum-is = omega arith; bound = omega arith }
@@ -47,8 +46,8 @@ shared-slice-read-level c = search needs
 add-sum : tie.Need-add-sum Inv-loop μ-loop
 add-sum c = let v = c .before .before .before .loop .inv in omega (arith, v .few, v .bound, c .addend .ensures .1, c .before .before .loop-test .taken)
 
-add-i : tie.Need-add-i Inv-loop μ-loop
-add-i c = search needs
+add-m : tie.Need-add-m Inv-loop μ-loop
+add-m c = search needs
 
 loop-less : tie.Need-loop-less Inv-loop μ-loop
 loop-less c = search needs
@@ -84,7 +83,7 @@ measure-spec =
     shared-slice-read-level
     (λ c κs. tt)
     add-sum
-    add-i
+    add-m
     loop-less
     loop-again
     loop-less-2

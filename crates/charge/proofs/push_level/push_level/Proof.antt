@@ -101,16 +101,16 @@ add-levels : tie.Need-add-levels
 add-levels c = search needs
 
 sub-levels : tie.Need-sub-levels
-sub-levels c = sub-before (c .before)
+sub-levels c = omega (arith, cell (c .before) .low)
 
 mul-levels : tie.Need-mul-levels
-mul-levels c = mul-before (c .before)
+mul-levels c = omega (arith, cell (c .before) .high)
 
 slice-write-levels : tie.Need-slice-write-levels
-slice-write-levels c = slice-read-before c
+slice-write-levels c = let b = cell (c .before) in omega (arith, b .low, b .high)
 
 add-jump : tie.Need-add-jump
-add-jump c = add-levels c
+add-jump c = search needs
 
 sub-jump : tie.Need-sub-jump
 sub-jump c = jumps (c .before) .0
