@@ -1,6 +1,5 @@
 -- Laws that the proofs of the functions use.
 pub mod Scanning
-pub mod Measuring
 pub mod Indexing
 pub mod Sorting
 pub mod Numbers

@@ -9,7 +9,6 @@ use Rattle.theory.specs.Refusal.{given}
 use Rattle.theory.specs.Permutation.{row}
 use Rattle.theory.specs.Levels.{highest, readNumber, permutationOf}
 use Rattle.theory.specs.CountUp.{ceilingOf, callNumber}
-use Rattle.theory.specs.Spent.{levelSum}
 use Rattle.theory.proofs.Refusal.{refused, answered, given-done, given-refused, orElse-refused, orElse-done, Readable, read-done, readable}
 use Rattle.theory.proofs.Refusal.{ceiling-refused, ceiling-done, ceiling-room}
 use Rattle.theory.proofs.Sorting.{permutationOf-length}
@@ -17,9 +16,7 @@ use Rattle.permutation.specs.declared.answers.Permuted.{Permuted}
 use Rattle.permutation.proofs.Answering.{permutedWith}
 use Rattle.charge.specs.declared.answers.Pushes.{Pushes}
 use Rattle.charge.specs.declared.judge.Call.{Call}
-use Rattle.charge.specs.declared.judge.Measured.{Measured}
-use Rattle.charge.specs.Counting.{measured, none, callJudged}
-use Rattle.charge.proofs.Measuring.{top-is, sum-is}
+use Rattle.charge.specs.Counting.{callJudged}
 use Rattle.charge.specs.Answers.{noPushes, donePushes, pushesOf, readAnswer, placeNumber}
 
 -- ---- a job that pushes, by its number: k pushes, which spend this charge and leave the levels L′, or none, and the levels L as they were
@@ -73,25 +70,17 @@ read-sorted {L} r e =
 
 -- ---- a call of count up with k
 
--- it is done, and these are the highest level and the sum
-pub record Granted (k : ℕ) (L : List ℕ) (standing : Measured) : Type 0 where
+-- it is done, and this is the highest level
+pub record Granted (k : ℕ) (L : List ℕ) (top : ℕ) : Type 0 where
   pub number : callNumber k L ≡ 0
   pub faultless : Readable L
-  pub top-is : standing .top ≡ highest L
-  pub sum-is : standing .sum ≡ levelSum L
-  pub room : standing .top + k ≤ maxLevel
+  pub top-is : top ≡ highest L
+  pub room : top + k ≤ maxLevel
 
-pub judged-granted : (k : ℕ) (L : List ℕ) {a : Call} → a ≡ callJudged L k → a .number ≡ 0 → Granted k L (a .standing)
+pub judged-granted : (k : ℕ) (L : List ℕ) {a : Call} → a ≡ callJudged L k → a .number ≡ 0 → Granted k L (a .top)
 unfolding callJudged callNumber
 judged-granted k L e z =
     let number : callNumber k L ≡ 0 = sym (ap (λ (a : Call). a .number) e) ∙ z in
     let past = orElse-done (readNumber L) (ceilingOf L k) number in
-    let standing = ap (λ (a : Call). a .standing) e ∙ given-done (callNumber k L) (measured L) none number in
-    let top = top-is L standing in
-    record {
-      number = number;
-      faultless = readable (past .0);
-      top-is = top;
-      sum-is = sum-is L standing;
-      room = rw top (ceiling-room L k (past .1));
-    }
+    let top = ap (λ (a : Call). a .top) e ∙ given-done (callNumber k L) (highest L) 0 number in
+    record { number = number; faultless = readable (past .0); top-is = top; room = rw top (ceiling-room L k (past .1)) }

@@ -42,8 +42,11 @@ module _ (L : List ℕ) {i : ℕ} (h : length L ≤ i) where
   pub tied-end : tied (drop i L) ≡ false
   tied-end = rw (drop-of-length-le L h)
 
-  pub none-ahead : (highest (drop i L) ≡ 0) × (levelSum (drop i L) ≡ 0)
-  none-ahead = rw (drop-of-length-le L h) (refl, refl)
+  pub highest-end : highest (drop i L) ≡ 0
+  highest-end = ap highest (drop-of-length-le L h)
+
+  pub sum-end : levelSum (drop i L) ≡ 0
+  sum-end = ap levelSum (drop-of-length-le L h)
 
 -- of no level, and of the last
 pub lowest-none : (L : List ℕ) → length L ≡ 0 → 0 ≡ lowest L
@@ -57,14 +60,6 @@ lowest-last L i h l = rw (ahead L i h, drop-of-length-le L l)
 module _ (L : List ℕ) (i : ℕ) (pos : 0 < i) where
   behind : i ≤ length L → drop (i - 1) L ≡ getD L (i - 1) 0 ∷ drop i L
   behind h = let q : i - 1 + 1 ≡ i = omega arith in ahead L (i - 1) (omega arith) ∙ rw q
-
-  -- the highest
-  module _ {t : ℕ} (h : i ≤ length L) (e : t ≡ highest (drop i L)) where
-    pub highest-here : t < getD L (i - 1) 0 → getD L (i - 1) 0 ≡ highest (drop (i - 1) L)
-    highest-here l = rw (behind h) (omega arith)
-
-    pub highest-next : getD L (i - 1) 0 ≤ t → t ≡ highest (drop (i - 1) L)
-    highest-next l = rw (behind h) (omega arith)
 
   -- the lowest, where at least one level is ahead
   module _ {t : ℕ} (h : i < length L) (e : t ≡ lowest (drop i L)) where

@@ -1,4 +1,4 @@
--- What levels are measured by and a count-up call is judged by, and what its steps start from. Only inner contracts cite these. Assumes nothing.
+-- What a count-up call is judged by, and what its steps start from and lead to. Only inner contracts cite these. Assumes nothing.
 use mathlib.Core.Path.{_≡_}
 use mathlib.Core.Bool.{false}
 use mathlib.Core.List.{List}
@@ -7,25 +7,14 @@ use lib.ListN.{length}
 use Rattle.theory.specs.Reasons.{maxLevel}
 use Rattle.theory.specs.Permutation.{row}
 use Rattle.theory.specs.Levels.{highest, tied, permutationOf}
-use Rattle.theory.specs.CountUp.{callNumber}
-use Rattle.theory.specs.Spent.{levelSum}
+use Rattle.theory.specs.CountUp.{countUp, callNumber}
+use Rattle.theory.specs.Spent.{chargeOf, countUpPushes}
 use Rattle.theory.specs.Refusal.{given}
 use Rattle.charge.specs.declared.judge.Call.{Call}
-use Rattle.charge.specs.declared.judge.Measured.{Measured}
 
--- the highest level and the sum of all; zeros beside a refusal
-unfoldable pub measured : List ℕ → Measured
-measured L = record { top = highest L; sum = levelSum L }
-
-abbrev pub none : Measured
-none = record { top = 0; sum = 0 }
-
--- a call's number and these
-abbrev pub call : ℕ → Measured → Call
-call number standing = record { number = number; standing = standing }
-
+-- the number of a call with k, and the highest level beside a 0
 unfoldable pub callJudged : List ℕ → ℕ → Call
-callJudged L k = call (callNumber k L) (given (callNumber k L) (measured L) none)
+callJudged L k = record { number = callNumber k L; top = given (callNumber k L) (highest L) 0 }
 
 -- k steps from the levels L, whose permutation stands in the row, have room
 pub record Ready (L cells : List ℕ) (top k : ℕ) : Type 0 where
@@ -35,3 +24,8 @@ pub record Ready (L cells : List ℕ) (top k : ℕ) : Type 0 where
   pub cells-are : cells ≡ row (permutationOf L)
   pub top-is : top ≡ highest L
   pub room : top + k ≤ maxLevel
+
+-- k steps led from L to L′, and spent this charge
+pub record Counted (k : ℕ) (L L′ : List ℕ) (charge : ℕ) : Type 0 where
+  pub levels : L′ ≡ countUp k L
+  pub spent : charge ≡ chargeOf (countUpPushes k L) L

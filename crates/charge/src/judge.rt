@@ -1,11 +1,10 @@
-// What a job on levels is judged by, before its first push: size, tie, the highest level, and a count-up call as a whole. And the sum of the levels, which tells
-// what a job spends, and the lowest level, for runs.
+// What a job on levels is judged by, before its first push: size, tie, the highest level, and a count-up call as a whole. And the lowest level, for runs.
 ghost use mathlib.Core.Path.{_≡_};
 ghost use Prim.Native.Nat.{_≤_};
 ghost use lib.ListN.{length, drop};
 ghost use Rattle.theory.specs.Lists.{member};
 ghost use Rattle.theory.specs.Levels as meaning;
-ghost use Rattle.charge.specs.Counting.{measured, none, call, callJudged};
+ghost use Rattle.charge.specs.Counting.{callJudged};
 use permutation::reasons::CEILING;
 use permutation::reasons::SIZE;
 use permutation::reasons::TIE;
@@ -58,61 +57,21 @@ pub fn highest(levels: &[u16]) -> u16
     ensures { λ r. ⌜ r ≡ meaning.highest (now (levels .entry)) ⌝ }
 {
     let mut top: u16 = 0;
-    let mut i = levels.len();
-    while 0 < i {
-        i -= 1;
-        if top < levels[i] {
-            top = levels[i];
-        }
-    }
-    top
-}
-
-// A level, to be added.
-fn addend(level: u16) -> u32
-    ensures { λ r. ⌜ (r ≡ level) × (r ≤ 65535) ⌝ }
-{
-    level as u32
-}
-
-// The highest level and the sum of all.
-pub struct Measured {
-    pub top: u16,
-    pub sum: u32,
-}
-
-// In one pass, which costs no more than the highest alone. For other crates too: it asks for at most twenty levels, whose sum fits.
-pub fn measure(levels: &[u16]) -> Measured
-    requires { ⌜ length (now levels) ≤ 20 ⌝ }
-    ensures { λ r. ⌜ r ≡ measured (now (levels .entry)) ⌝ }
-{
-    let mut top: u16 = 0;
-    let mut sum: u32 = 0;
     let mut m: usize = 0;
     while m < levels.len() {
         let level = levels[m];
-        sum += addend(level);
         m += 1;
         if top < level {
             top = level;
         }
     }
-    Measured { top, sum }
+    top
 }
 
-// What a count-up call is judged by: its number and, where that is 0, the highest level and the sum of all.
+// What a count-up call is judged by: its number and, where that is 0, the highest level.
 pub struct Call {
     pub number: u8,
-    pub standing: Measured,
-}
-
-fn no_call(number: u8) -> Call
-    ensures { λ r. ⌜ r ≡ call number none ⌝ }
-{
-    Call {
-        number,
-        standing: Measured { top: 0, sum: 0 },
-    }
+    pub top: u16,
 }
 
 // A count-up call by k. For other crates too.
@@ -121,16 +80,16 @@ pub fn judge_call(levels: &[u16], k: u32) -> Call
 {
     let number = read_number(levels);
     if number != 0 {
-        return no_call(number);
+        return Call { number, top: 0 };
     }
-    let standing = measure(levels);
-    if 65535 - (standing.top as u32) < k {
-        return no_call(CEILING);
+    let top = highest(levels);
+    if 65535 - (top as u32) < k {
+        return Call {
+            number: CEILING,
+            top: 0,
+        };
     }
-    Call {
-        number: 0,
-        standing,
-    }
+    Call { number: 0, top }
 }
 
 // For other crates too.

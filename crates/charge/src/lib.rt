@@ -2,7 +2,8 @@
 // meaning of `specs/Answers` or of the theory's `CountUp`, for every input.
 pub mod answers; // what a job that pushes answers
 pub mod count_up; // k next steps
-pub mod judge; // size and tie, the highest and the lowest level, their sum, a count-up call
+pub mod judge; // size and tie, the highest and the lowest level, a count-up call
 pub mod push_level; // one push
 pub mod read; // the permutation of levels
 pub mod sort; // cells sorted by level
+pub mod sum; // the sum of levels

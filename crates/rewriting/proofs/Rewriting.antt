@@ -84,7 +84,6 @@ module _ {L : List ℕ} {target : Permutation} {room : ℕ} (j : Judged L target
   -- the first cells of the target, so many as a rewrite may push
   pub pushable : {r : ℕ} → length (target .cells) ≡ 20 → r ≤ length L - 1 → Pushable (length L) (target .cells) r
   pushable {r} long below = record {
-    many = j .readable .many;
     long = long;
     few = omega (arith, j .readable .many);
     named = λ i h.

@@ -23,9 +23,6 @@ use Rattle.permutation.specs.declared.answers.Permutation.{Permutation}
 use Rattle.ranking.specs.declared.answers.Ranked.{Ranked}
 use Rattle.ranking.proofs.Values.{ranked-record}
 use Rattle.charge.specs.Answers.{readAnswer}
-use Rattle.charge.specs.Counting.{measured}
-use Rattle.charge.specs.declared.judge.Measured.{Measured}
-use Rattle.charge.proofs.Measuring.{spent}
 use Rattle.theory.proofs.Refusal.{orElse-done, Readable, readable, ceiling-room}
 use Rattle.runs.specs.Steps.{pushCounts, countIn}
 use Rattle.runs.specs.LevelSteps.{levelsAfter, widest, largestRaise, levelRunAnswer, LevelsOf}
@@ -146,16 +143,13 @@ module _ (L : List ℕ) (k : ℕ) (g : callNumber k L ≡ 0) where
         (let size = long k in
         record { few = omega (arith, few); many = omega (arith, many); untied = reads-untied (reads-after k) })
 
-    grown : levelSum levels ≡ levelSum L + callCharge k L
-    grown = ap levelSum levels-left ∙ spending L .call k
+    -- by the sums of the levels before and after
+    module _ (before after : ℕ) (before-is : before ≡ levelSum L) (after-is : after ≡ levelSum levels) where
+      pub grown : after ≡ before + callCharge k L
+      grown = after-is ∙ ap levelSum levels-left ∙ spending L .call k ∙ ap (λ (s : ℕ). s + callCharge k L) (sym before-is)
 
-    -- by the sum of the levels before, and as they are measured after
-    module _ (before : ℕ) (after : Measured) (before-is : before ≡ levelSum L) (after-is : after ≡ measured levels) where
-      pub difference : (before ≤ after .sum) × (after .sum - before ≡ callCharge k L)
-      difference = spent L levels (callCharge k L) grown before-is after-is
-
-      pub levels-spent : levelSum levels ≡ levelSum L + (after .sum - before)
-      levels-spent = rw (difference .1) grown
+      pub levels-spent : levelSum levels ≡ levelSum L + (after - before)
+      levels-spent = omega (arith, before-is, after-is, grown)
 
       -- p is read from the levels, and r is its rank
       module _ (p : Permutation) (r : ℕ) (stands : p ≡ readAnswer levels .permutation) (ranks : r ≡ rankAnswer p .rank) where
@@ -166,11 +160,13 @@ module _ (L : List ℕ) (k : ℕ) (g : callNumber k L ≡ 0) where
             ∙ ap (λ (n : ℕ). rank n (permutationOf levels)) (levels-long k levels counts wide large v)
 
         abbrev answer : RanLevels
-        answer = record { number = 0; pushes = k; charge = after .sum - before; counts = counts; widest = wide; largest = large; rank = r }
+        answer = record { number = 0; pushes = k; charge = after - before; counts = counts; widest = wide; largest = large; rank = r }
 
         pub ran-levels-left : answer ≡ levelRunAnswer L k
         unfolding levelRunAnswer
-        ran-levels-left = rw (difference .1, g, calling k L .counted g .0, v .counted, v .widest-is, v .largest-is, is, counted-up)
+        ran-levels-left =
+            let charge : after - before ≡ callCharge k L = omega (arith, grown) in
+            rw (charge, g, calling k L .counted g .0, v .counted, v .widest-is, v .largest-is, is, counted-up)
 
         pub levels-of : LevelsOf L k levels answer
         levels-of = record {

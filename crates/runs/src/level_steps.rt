@@ -9,9 +9,9 @@ use super::answers::RanLevels;
 use charge::judge::highest;
 use charge::judge::judge_call;
 use charge::judge::lowest;
-use charge::judge::measure;
 use charge::push_level::push_level;
 use charge::read::read;
+use charge::sum::level_sum;
 use permutation::cell::wide;
 use permutation::successor::successor;
 use ranking::rank::rank;
@@ -70,7 +70,7 @@ pub fn run_levels(levels: &mut [u16], k: u32) -> RanLevels
             rank: 0,
         };
     }
-    let before = measure(levels).sum;
+    let before = level_sum(levels);
     let mut widest: u16 = 0;
     let mut largest: u16 = 0;
     let mut done: u32 = 0;
@@ -82,7 +82,7 @@ pub fn run_levels(levels: &mut [u16], k: u32) -> RanLevels
         largest = larger(largest, stepped.raise);
         done += 1;
     }
-    let charge = measure(levels).sum - before;
+    let charge = level_sum(levels) - before;
     let standing = read(levels).permutation;
     RanLevels {
         number: 0,

@@ -103,7 +103,6 @@ module _ {L cells : List ℕ} {p : ℕ} (v : Storable L cells p) where
 
   pub first-pushable : {r : ℕ} → r ≤ p → Pushable (length L) cells r
   first-pushable {r} h = record {
-    many = v .many;
     long = v .long;
     few = omega (arith, v .short, v .many);
     named = λ i l.

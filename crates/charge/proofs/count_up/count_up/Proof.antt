@@ -1,27 +1,24 @@
 -- `charge::count_up::count_up` meets its contract: the call is judged, and where it is done the steps are. Assumes nothing.
-use mathlib.Core.Path.{_≡_, refl, ap, _∙_}
-use Prim.Native.Nat.{_-_, _≤_}
+use mathlib.Core.Path.{refl, ap, _∙_}
 use native.Mathlib.Omega.{arith}
 use borrow.Author.Needs.{needs}
 use Rattle.theory.specs.CountUp.{countUp, callLevels}
-use Rattle.theory.specs.Spent.{levelSum, chargeOf, countUpPushes}
-use Rattle.theory.proofs.Spent.{count-sum}
+use Rattle.theory.specs.Spent.{chargeOf, countUpPushes}
 use Rattle.charge.specs.Answers.{donePushes, callAnswer}
 use Rattle.charge.specs.Counting.{callJudged}
 use Rattle.charge.specs.declared.judge.Call.{Call}
 use Rattle.charge.proofs.Sorting.{sorted-row}
-use Rattle.charge.proofs.Measuring.{spent}
 use Rattle.charge.proofs.Numbers.{Granted, judged-granted, pushes-refused, pushes-done}
 use Rattle.charge.proofs.count_up.count_up.Statement.{statement}
 use Rattle.charge.proofs.count_up.count_up.Tie as tie
 
 -- past the test the call is done
 call : (c : tie.Else1)
-    → let a = c .before .before .before .before .args in Granted (a .k) (a .levels .now) (c .before .judge-call .result .standing)
+    → let a = c .before .before .before .before .args in Granted (a .k) (a .levels .now) (c .before .judge-call .result .top)
 call c = judged-granted _ _ (c .before .judge-call .ensures) (c .if1 .left)
 
 abbrev past : tie.After-cells2 → tie.Else1
-past c = c .before .before .before .before .before .before
+past c = c .before .before .before .before .before
 
 same-length : tie.Need-same-length
 same-length c = search needs
@@ -34,7 +31,7 @@ returns c =
     (ap (λ (a : Call). a .number) (at .judge-call .ensures)) (c .before .if1 .taken)
 
 sort-cells-requires : tie.Need-sort-cells-requires
-sort-cells-requires c κs = (call (c .before .before .before) .faultless .many, refl)
+sort-cells-requires c κs = (call (c .before .before) .faultless .many, refl)
 
 cast-count-steps : tie.Need-cast-count-steps
 cast-count-steps c = record { fits = omega (arith, call (past c) .room) }
@@ -51,36 +48,17 @@ count-steps-requires c κs =
       room = g .room;
     }
 
--- the steps are done: where they began, and what they spent
-abbrev from : tie.After-count-steps → tie.Else1
-from c = past (c .before)
-
-measure-requires : tie.Need-measure-requires
-measure-requires c κs = let at = c .before .before .before in omega (arith, at .count-steps .kept .0, call (from at) .faultless .many)
-
-difference : (c : tie.After-measure)
-    → let at = c .before .before .before .before in let a = from at .before .before .before .before .args in
-    let before = from at .before .judge-call .result .standing .sum in
-    (before ≤ c .measure .result .sum)
-    × (c .measure .result .sum - before ≡ chargeOf (countUpPushes (a .k) (a .levels .now)) (a .levels .now))
-difference c =
-    let at = c .before .before .before .before in let a = from at .before .before .before .before .args in
-    let g = call (from at) in
-    spent (a .levels .now) _ _ (ap levelSum (at .count-steps .ensures) ∙ count-sum (a .k) (a .levels .now) (g .faultless .few)) (g .sum-is) (c .measure .ensures)
-
-sub-charge : tie.Need-sub-charge
-sub-charge c = difference (c .before .before) .0
-
 same-length-2 : tie.Need-same-length-2
 same-length-2 c = search needs
 
 returns-2 : tie.Need-returns-2
 unfolding callAnswer callLevels
 returns-2 c =
-    let sums = c .before .before .before in
-    let at = sums .before .before .before .before in let a = from at .before .before .before .before .args in
-    pushes-done (a .k) _ _ (countUp (a .k) (a .levels .now)) (c .done-pushes .ensures ∙ ap (donePushes (a .k)) (difference sums .1))
-    (call (from at) .number) (at .count-steps .ensures)
+    let at = c .before .before .before in
+    let a = past (at .before) .before .before .before .before .args in
+    let counted = at .count-steps .ensures in
+    pushes-done (a .k) _ _ (countUp (a .k) (a .levels .now)) (c .done-pushes .ensures ∙ ap (donePushes (a .k)) (counted .spent))
+    (call (past (at .before)) .number) (counted .levels)
 
 pub count-up-spec : {M : Type 1} → statement M
 count-up-spec =
@@ -93,8 +71,6 @@ count-up-spec =
     sort-cells-requires
     cast-count-steps
     count-steps-requires
-    measure-requires
-    sub-charge
     (λ c κs. tt)
     same-length-2
     returns-2)

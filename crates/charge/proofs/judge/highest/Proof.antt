@@ -1,57 +1,50 @@
--- `charge::judge::highest` meets its contract: `top` is the highest of the levels from index i on. Assumes nothing.
-use mathlib.Core.Path.{_≡_, sym, ap, _∙_}
-use Prim.Native.Nat.{_≤_}
+-- `charge::judge::highest` meets its contract: what was met and the levels ahead have the highest of all. Assumes nothing.
+use mathlib.Core.Path.{_≡_}
+use Prim.Native.Nat.{_-_, max}
 use native.Mathlib.Omega.{arith}
 use borrow.Author.Needs.{needs}
 use lib.ListN.{length, drop}
-use lib.Seq.{drop-length}
 use Rattle.theory.specs.Levels.{highest}
-use Rattle.charge.proofs.Scanning.{highest-here, highest-next}
+use Rattle.charge.proofs.Scanning.{highest-ahead, highest-end}
 use Rattle.charge.proofs.judge.highest.Statement.{statement}
 use Rattle.charge.proofs.judge.highest.Tie as tie
 
 abbrev Inv-loop : tie.InvT-loop
-Inv-loop levels top₀ i₀ top i = (i ≤ length levels) × (top ≡ highest (drop i levels))
+Inv-loop levels top₀ m₀ top m = max top (highest (drop m levels)) ≡ highest levels
 
 abbrev μ-loop : tie.MeasureT-loop
-μ-loop levels top₀ i₀ top i = i
+μ-loop levels top₀ m₀ top m = length levels - m
 
 loop-holds : tie.Need-loop-holds Inv-loop μ-loop
-loop-holds c = (search needs, ap highest (sym (drop-length (c .args .levels .now))))
+loop-holds c = omega arith
 
-sub-i : tie.Need-sub-i Inv-loop μ-loop
-sub-i c = search needs
+mul-level : tie.Need-mul-level Inv-loop μ-loop
+mul-level c = search needs
 
-mul-if1 : tie.Need-mul-if1 Inv-loop μ-loop
-mul-if1 c = search needs
+shared-slice-read-level : tie.Need-shared-slice-read-level Inv-loop μ-loop
+shared-slice-read-level c = search needs
 
-shared-slice-read-if1 : tie.Need-shared-slice-read-if1 Inv-loop μ-loop
-shared-slice-read-if1 c = search needs
-
-mul-top : tie.Need-mul-top Inv-loop μ-loop
-mul-top c = search needs
-
-shared-slice-read-top : tie.Need-shared-slice-read-top Inv-loop μ-loop
-shared-slice-read-top c = search needs
+add-m : tie.Need-add-m Inv-loop μ-loop
+add-m c = search needs
 
 loop-less : tie.Need-loop-less Inv-loop μ-loop
 loop-less c = search needs
 
 loop-again : tie.Need-loop-again Inv-loop μ-loop
 loop-again c =
-    let inv = c .before .before .before .before .loop .inv in
-    (search needs, highest-here _ _ (c .before .before .before .loop-test .taken) (inv .0) (inv .1) (c .before .if1 .taken))
+    let at = c .before .before .before in
+    omega (arith, highest-ahead (at .before .args .levels .now) _ (c .before .before .loop-test .taken), at .loop .inv, c .if1 .taken)
 
 loop-less-2 : tie.Need-loop-less-2 Inv-loop μ-loop
 loop-less-2 c = search needs
 
 loop-again-2 : tie.Need-loop-again-2 Inv-loop μ-loop
 loop-again-2 c =
-    let inv = c .before .before .before .loop .inv in
-    (search needs, highest-next _ _ (c .before .before .loop-test .taken) (inv .0) (inv .1) (c .if1 .left))
+    let at = c .before .before .before in
+    omega (arith, highest-ahead (at .before .args .levels .now) _ (c .before .before .loop-test .taken), at .loop .inv, c .if1 .left)
 
 returns : tie.Need-returns Inv-loop μ-loop
-returns c = let e : c .before .loop .i ≡ 0 = omega arith in c .before .loop .inv .1 ∙ rw e
+returns c = omega (arith, c .before .loop .inv, highest-end (c .before .before .args .levels .now) (c .loop-test .left))
 
 pub highest-spec : {M : Type 1} → statement M
 highest-spec =
@@ -60,11 +53,9 @@ highest-spec =
     Inv-loop
     μ-loop
     loop-holds
-    sub-i
-    mul-if1
-    shared-slice-read-if1
-    mul-top
-    shared-slice-read-top
+    mul-level
+    shared-slice-read-level
+    add-m
     loop-less
     loop-again
     loop-less-2

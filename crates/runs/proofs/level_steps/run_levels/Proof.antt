@@ -9,9 +9,8 @@ use Rattle.permutation.specs.declared.answers.Permuted.{Permuted}
 use Rattle.ranking.specs.declared.answers.Ranked.{Ranked}
 use Rattle.charge.specs.Counting.{callJudged}
 use Rattle.charge.specs.declared.judge.Call.{Call}
-use Rattle.charge.proofs.Measuring.{sum-is}
 use Rattle.runs.proofs.LevelRunning.{RunningLevels, many, levels-none, levels-long, step-granted, step-inside, levels-more}
-use Rattle.runs.proofs.LevelRunning.{levels-left, difference, levels-spent, ran-levels-left, levels-of, ran-levels-refused}
+use Rattle.runs.proofs.LevelRunning.{levels-left, grown, levels-spent, ran-levels-left, levels-of, ran-levels-refused}
 use Rattle.runs.proofs.level_steps.run_levels.Statement.{statement}
 use Rattle.runs.proofs.level_steps.run_levels.Tie as tie
 
@@ -29,8 +28,8 @@ entry c = c .before .before .before
 abbrev entered : tie.At-loop Inv-loop μ-loop → tie.Start Inv-loop μ-loop
 entered c = entry (c .before .before .before .before)
 
-abbrev summed : tie.After-rank Inv-loop μ-loop → tie.After-measure2 Inv-loop μ-loop
-summed c = c .before .before .before .before .before
+abbrev summed : tie.After-rank Inv-loop μ-loop → tie.After-level-sum2 Inv-loop μ-loop
+summed c = c .before .before .before .before
 
 abbrev looped : tie.After-rank Inv-loop μ-loop → tie.At-loop Inv-loop μ-loop
 looped c = summed c .before .before .before
@@ -51,8 +50,8 @@ granted : (c : tie.Else1 Inv-loop μ-loop)
     → let a = entry (c .before) .args in callNumber (a .k) (a .levels .now) ≡ 0
 granted c = sym (number-is (c .before)) ∙ c .if1 .left
 
-measure-requires : tie.Need-measure-requires Inv-loop μ-loop
-measure-requires c κs = many _ _ (granted (c .before))
+level-sum-requires : tie.Need-level-sum-requires Inv-loop μ-loop
+level-sum-requires c κs = many _ _ (granted (c .before))
 
 loop-holds : tie.Need-loop-holds Inv-loop μ-loop
 loop-holds c = let g = granted (c .before .before) in (omega arith, g, levels-none _ _ g)
@@ -106,7 +105,7 @@ read-requires : tie.Need-read-requires Inv-loop μ-loop
 read-requires c κs = search needs
 
 -- the steps are all done, and the levels summed before and after
-ran : (c : tie.After-measure2 Inv-loop μ-loop)
+ran : (c : tie.After-level-sum2 Inv-loop μ-loop)
     → let l = c .before .before .before .loop in let a = entered (c .before .before .before) .args in
     (l .done ≡ a .k) × RunningLevels (a .levels .now) (a .k) (l .levels) (l .counts) (l .widest) (l .largest)
 ran c =
@@ -114,15 +113,15 @@ ran c =
     let all : l .done ≡ a .k = omega (arith, l .inv .0) in
     (all, subst (λ (j : ℕ). RunningLevels (a .levels .now) j (l .levels) (l .counts) (l .widest) (l .largest)) all (l .inv .2))
 
-measure-requires-2 : tie.Need-measure-requires-2 Inv-loop μ-loop
-measure-requires-2 c κs =
+level-sum-requires-2 : tie.Need-level-sum-requires-2 Inv-loop μ-loop
+level-sum-requires-2 c κs =
     let inv = c .before .before .loop .inv in
     omega (arith, levels-long _ _ (inv .1) _ _ _ _ _ (inv .2), many _ _ (inv .1))
 
 sub-charge : tie.Need-sub-charge Inv-loop μ-loop
 sub-charge c =
-    let at = c .before .before .before .before in
-    difference _ _ (at .loop .inv .1) _ _ _ _ (ran (c .before) .1) _ _ (sum-is _ (at .before .measure .ensures)) (c .before .measure2 .ensures) .0
+    let at = c .before .before .before in
+    omega (arith, grown _ _ (at .loop .inv .1) _ _ _ _ (ran c .1) _ _ (at .before .level-sum .ensures) (c .level-sum2 .ensures))
 
 same-length-2 : tie.Need-same-length-2 Inv-loop μ-loop
 same-length-2 c = let inv = looped c .loop .inv in levels-long _ _ (inv .1) _ _ _ _ _ (inv .2)
@@ -132,7 +131,7 @@ returns-2 c =
     let at = summed c in
     let g = looped c .loop .inv .1 in
     let v = ran at in
-    let before = sum-is _ (looped c .before .measure .ensures) in let after = at .measure2 .ensures in
+    let before = looped c .before .level-sum .ensures in let after = at .level-sum2 .ensures in
     let stands = ap (λ (a : Permuted). a .permutation) (c .before .before .read .ensures) in
     let ranks = ap (λ (a : Ranked). a .rank) (c .rank .ensures) in
     rw (v .0) (
@@ -152,7 +151,7 @@ run-levels-spec =
     (λ c κs. tt)
     same-length
     returns
-    measure-requires
+    level-sum-requires
     loop-holds
     step-levels-requires
     sub-counts
@@ -165,7 +164,7 @@ run-levels-spec =
     add-done
     loop-less
     loop-again
-    measure-requires-2
+    level-sum-requires-2
     sub-charge
     read-requires
     (λ c κs. tt)
