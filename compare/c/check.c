@@ -44,7 +44,7 @@ static int spent(tm_pushes answer, uint32_t pushes, uint32_t charge) {
     return answer.number == TM_DONE && answer.pushes == pushes && answer.charge == charge;
 }
 
-static int unspent(tm_pushes answer, uint8_t number) {
+static int sent_back(tm_pushes answer, uint8_t number) {
     return answer.number == number && answer.pushes == 0 && answer.charge == 0;
 }
 
@@ -79,14 +79,14 @@ static void check_levels(void) {
     CHECK(refused(tm_read(tied, 2), TM_TIE) && refused(tm_read(levels, 1), TM_SIZE));
     const uint16_t after_push[3] = {9, 3, 10};
     CHECK(spent(tm_push_level(levels, 3, 2), 1, 5) && memcmp(levels, after_push, sizeof levels) == 0);
-    CHECK(unspent(tm_push_level(levels, 3, 4), TM_VALUE) && unspent(tm_push_level(levels, 1, 2), TM_SIZE));
+    CHECK(sent_back(tm_push_level(levels, 3, 4), TM_VALUE) && sent_back(tm_push_level(levels, 1, 2), TM_SIZE));
     CHECK(memcmp(levels, after_push, sizeof levels) == 0);
     uint16_t high[3] = {65530, 65528, 65529}, twins[2] = {7, 7};
     const uint16_t standing[3] = {65530, 65528, 65529}, counted[3] = {65534, 65533, 65535};
-    CHECK(unspent(tm_count_up(high, 3, 6), TM_CEILING) && memcmp(high, standing, sizeof high) == 0);
+    CHECK(sent_back(tm_count_up(high, 3, 6), TM_CEILING) && memcmp(high, standing, sizeof high) == 0);
     CHECK(spent(tm_count_up(high, 3, 5), 5, 15) && memcmp(high, counted, sizeof high) == 0);
-    CHECK(unspent(tm_push_level(high, 3, 2), TM_CEILING) && spent(tm_count_up(high, 3, 0), 0, 0) && memcmp(high, counted, sizeof high) == 0);
-    CHECK(unspent(tm_push_level(twins, 2, 2), TM_TIE) && unspent(tm_count_up(twins, 2, 1), TM_TIE) && memcmp(twins, tied, sizeof twins) == 0);
+    CHECK(sent_back(tm_push_level(high, 3, 2), TM_CEILING) && spent(tm_count_up(high, 3, 0), 0, 0) && memcmp(high, counted, sizeof high) == 0);
+    CHECK(sent_back(tm_push_level(twins, 2, 2), TM_TIE) && sent_back(tm_count_up(twins, 2, 1), TM_TIE) && memcmp(twins, tied, sizeof twins) == 0);
 }
 
 static void check_rewriting(void) {
@@ -95,9 +95,9 @@ static void check_rewriting(void) {
     const uint16_t before[5] = {14, 13, 12, 11, 10}, after[5] = {14, 15, 12, 11, 16}, high_before[5] = {65534, 13, 12, 11, 10};
     uint8_t list[6] = {90, 91, 92, 93, 94, 95};
     const uint8_t list_before[6] = {90, 91, 92, 93, 94, 95}, list_after[6] = {2, 5, 92, 93, 94, 95};
-    CHECK(unspent(tm_rewrite(levels, 5, other, list, 6), TM_FIT) && unspent(tm_rewrite(levels, 5, target, list, 3), TM_FIT));
-    CHECK(unspent(tm_rewrite(levels, 5, muddled, list, 6), TM_MUDDLE) && unspent(tm_rewrite(levels, 5, empty, list, 6), TM_SIZE));
-    CHECK(unspent(tm_rewrite(tied, 5, target, list, 6), TM_TIE) && unspent(tm_rewrite(high, 5, target, list, 6), TM_CEILING));
+    CHECK(sent_back(tm_rewrite(levels, 5, other, list, 6), TM_FIT) && sent_back(tm_rewrite(levels, 5, target, list, 3), TM_FIT));
+    CHECK(sent_back(tm_rewrite(levels, 5, muddled, list, 6), TM_MUDDLE) && sent_back(tm_rewrite(levels, 5, empty, list, 6), TM_SIZE));
+    CHECK(sent_back(tm_rewrite(tied, 5, target, list, 6), TM_TIE) && sent_back(tm_rewrite(high, 5, target, list, 6), TM_CEILING));
     CHECK(memcmp(list, list_before, sizeof list) == 0 && memcmp(levels, before, sizeof levels) == 0 && memcmp(high, high_before, sizeof high) == 0);
     CHECK(spent(tm_rewrite(levels, 5, target, list, 6), 2, 8));
     CHECK(memcmp(list, list_after, sizeof list) == 0 && memcmp(levels, after, sizeof levels) == 0);
@@ -113,9 +113,9 @@ static void check_symbols(void) {
     tm_symbol symbol = tm_read_symbol(levels, 4, 12), idle = tm_read_symbol(levels, 4, 6), outside = tm_read_symbol(levels, 4, 25);
     CHECK(symbol.number == TM_DONE && symbol.symbol == 6);
     CHECK(idle.number == TM_IDLE && idle.symbol == 0 && outside.number == TM_VALUE && outside.symbol == 0);
-    CHECK(unspent(tm_store(levels, 4, 12, 12), TM_VALUE) && memcmp(levels, after, sizeof levels) == 0);
-    CHECK(unspent(tm_store(high, 4, 12, 6), TM_CEILING) && memcmp(high, high_before, sizeof high) == 0);
-    CHECK(unspent(tm_store(tied, 4, 12, 6), TM_TIE) && tm_read_symbol(tied, 4, 12).number == TM_TIE && unspent(tm_store(levels, 1, 1, 0), TM_SIZE));
+    CHECK(sent_back(tm_store(levels, 4, 12, 12), TM_VALUE) && memcmp(levels, after, sizeof levels) == 0);
+    CHECK(sent_back(tm_store(high, 4, 12, 6), TM_CEILING) && memcmp(high, high_before, sizeof high) == 0);
+    CHECK(sent_back(tm_store(tied, 4, 12, 6), TM_TIE) && tm_read_symbol(tied, 4, 12).number == TM_TIE && sent_back(tm_store(levels, 1, 1, 0), TM_SIZE));
 }
 
 /* Document 02, request 3: the jobs of document 01's bench sheet, a push over the whole range, and totals past 16 bits. */
@@ -125,7 +125,7 @@ static void check_charge(void) {
     const uint16_t after[3] = {7, 6, 8}, ceiling[2] = {65535, 65534}, all_high[3] = {65533, 65535, 65534};
     uint8_t list[2];
     CHECK(spent(tm_count_up(levels, 3, 4), 4, 3 + 3 + 2 + 4) && spent(tm_rewrite(levels, 3, target, list, 2), 1, 3));
-    CHECK(unspent(tm_store(levels, 3, 3, 3), TM_VALUE) && memcmp(levels, after, sizeof levels) == 0);
+    CHECK(sent_back(tm_store(levels, 3, 3, 3), TM_VALUE) && memcmp(levels, after, sizeof levels) == 0);
     CHECK(spent(tm_push_level(deep, 2, 2), 1, 65535) && memcmp(deep, ceiling, sizeof deep) == 0);
     CHECK(spent(tm_rewrite(low, 3, reversed, list, 2), 2, 65533 + 65535) && memcmp(low, all_high, sizeof low) == 0);
     /* of six symbols, 3 has the prefix [2,3] */
@@ -220,9 +220,9 @@ static void check_null(void) {
     const tm_permutation target = {2, {1, 2}};
     uint16_t levels[2] = {0, 1};
     uint8_t text[4];
-    CHECK(refused(tm_read(NULL, 0), TM_SIZE) && unspent(tm_push_level(NULL, 0, 2), TM_SIZE) && unspent(tm_count_up(NULL, 0, 1), TM_SIZE));
-    CHECK(unspent(tm_rewrite(NULL, 0, target, NULL, 0), TM_SIZE) && unspent(tm_rewrite(levels, 2, target, NULL, 0), TM_FIT));
-    CHECK(unspent(tm_store(NULL, 0, 1, 0), TM_SIZE) && tm_read_symbol(NULL, 0, 1).number == TM_SIZE);
+    CHECK(refused(tm_read(NULL, 0), TM_SIZE) && sent_back(tm_push_level(NULL, 0, 2), TM_SIZE) && sent_back(tm_count_up(NULL, 0, 1), TM_SIZE));
+    CHECK(sent_back(tm_rewrite(NULL, 0, target, NULL, 0), TM_SIZE) && sent_back(tm_rewrite(levels, 2, target, NULL, 0), TM_FIT));
+    CHECK(sent_back(tm_store(NULL, 0, 1, 0), TM_SIZE) && tm_read_symbol(NULL, 0, 1).number == TM_SIZE);
     CHECK(tm_bench(NULL, 0, NULL, 0).number == TM_FIT);
     CHECK(tm_bench(NULL, 0, text, sizeof text).length == 4 && memcmp(text, "s 8\n", 4) == 0);
     const held *h = &paper;

@@ -237,7 +237,7 @@ def do_count_up(k, *levels):
 
 
 def do_run_levels(k, *levels):
-    """k steps on levels: the pushes, their charge, the widest top less bottom after a step, the largest jump, the rank at the end, each cell's pushes, the levels."""
+    """k steps on levels: the pushes, their charge, the widest top less bottom after a step, the largest raise of a push, the rank at the end, each cell's pushes, the levels."""
     number, before, pushes, charge, widest, largest = call(k, levels)[0], levels, row([]), 0, 0, 0
     for _ in range(0 if number else k):
         levels, jump = push_level(levels, successor(read(levels)))

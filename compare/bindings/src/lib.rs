@@ -139,7 +139,7 @@ pub fn read(levels: &[u16]) -> Result<Permutation, Reason> {
     given(answer.number, answer.permutation)
 }
 
-/// Pushes the cell at a place, and gives the number of pushes, 1, and its jump.
+/// Pushes the cell at a place, and gives the number of pushes, 1, and its jump as the charge.
 /// Refused: Size, Tie, Value, Ceiling.
 pub fn push_level(levels: &mut [u16], place: usize) -> Result<Spent, Reason> {
     spent(raw::push_level(levels, place))

@@ -148,7 +148,7 @@ fn the_longest_jumps() {
     cross.met(&[0, 5, 6]);
 }
 
-/// Every cell from the bottom to the ceiling, by one count and by two: hardly any total is larger.
+/// Every cell from the bottom to the ceiling, by one count and by two. From levels without a gap no total of k steps is above n times k; these are at most n - 2 below it.
 #[test]
 fn large_totals() {
     let mut cross = Cross::default();

@@ -13,7 +13,7 @@ use Rattle.theory.specs.Spent.{levelSum, chargeOf, countUpPushes}
 use Rattle.theory.specs.Claims.{Reading}
 use Rattle.theory.proofs.Splits.{successor-bounds}
 use Rattle.theory.proofs.Reading.{reading}
-use Rattle.theory.proofs.Spent.{sum-fits, next-inside, step-sum, count-sum}
+use Rattle.theory.proofs.Spent.{sum-fits, next-inside, step-sum, counted-sum}
 use Rattle.permutation.proofs.PushedRows.{push-row}
 use Rattle.charge.specs.Counting.{Ready, Counted}
 use Rattle.charge.proofs.Sorting.{row-long, row-first}
@@ -122,7 +122,7 @@ module _ {first : List ℕ} {k last : ℕ} {L cells : List ℕ} {top : ℕ} (v :
         rw e at (v .left)
 
     grown : levelSum L ≡ levelSum first + chargeOf (countUpPushes k first) first
-    grown = ap levelSum left-now ∙ count-sum k first (omega (arith, v .ready .few, v .size))
+    grown = ap levelSum left-now ∙ counted-sum k first (omega (arith, v .ready .few, v .size))
 
     pub end : (charge : ℕ) → levelSum L ≡ levelSum first + charge → Counted k first L charge
     end charge e = record { levels = left-now; spent = omega (arith, e, grown) }

@@ -1,23 +1,29 @@
 -- What a job on levels answers, by its number, and what a count-up call is judged by. Assumes nothing.
 use mathlib.Core.Path.{_≡_, sym, ap, ap₂, _∙_}
+use mathlib.Core.Bool.{_&&_, and-eq-true-iff}
 use mathlib.Core.List.{List, []}
-use Prim.Native.Nat.{ℕ, _+_, _≤_, _<_}
-use borrow.Author.Tests.{le-leb, lt-leb}
+use Prim.Native.Nat.{ℕ, _+_, _-_, _≤_, _<_}
+use native.Mathlib.Omega.{arith}
+use borrow.Author.Tests.{leb-true, le-leb, lt-leb}
+use lib.Dec.{leb}
 use lib.ListN.{length}
 use Rattle.theory.specs.Reasons.{done, value, ceiling, maxLevel}
 use Rattle.theory.specs.Refusal.{given}
-use Rattle.theory.specs.Permutation.{row}
+use Rattle.theory.specs.Permutation.{row, cellAt}
 use Rattle.theory.specs.Levels.{highest, readNumber, permutationOf}
-use Rattle.theory.specs.CountUp.{ceilingOf, callNumber}
-use Rattle.theory.proofs.Refusal.{refused, answered, given-done, given-refused, orElse-refused, orElse-done, Readable, read-done, readable}
+use Rattle.theory.specs.CountUp.{ceilingOf, callNumber, callLevels}
+use Rattle.theory.specs.Spent.{Spends, callCharge}
+use Rattle.theory.proofs.Refusal.{refused, answered, given-done, given-refused, orElse-refused, orElse-done, tested, Readable, read-done, readable}
 use Rattle.theory.proofs.Refusal.{ceiling-refused, ceiling-done, ceiling-room}
-use Rattle.theory.proofs.Sorting.{permutationOf-length}
+use Rattle.theory.proofs.Members.{entry-inside}
+use Rattle.theory.proofs.Sorting.{permutationOf-permutation, permutationOf-length}
+use Rattle.theory.proofs.Spent.{push-sum, given-sum, spending}
 use Rattle.permutation.specs.declared.answers.Permuted.{Permuted}
 use Rattle.permutation.proofs.Answering.{permutedWith}
 use Rattle.charge.specs.declared.answers.Pushes.{Pushes}
 use Rattle.charge.specs.declared.judge.Call.{Call}
 use Rattle.charge.specs.Counting.{callJudged}
-use Rattle.charge.specs.Answers.{noPushes, donePushes, pushesOf, readAnswer, placeNumber}
+use Rattle.charge.specs.Answers.{noPushes, donePushes, pushesOf, readAnswer, placeNumber, placeAnswer, placeLevels, callAnswer}
 
 -- ---- a job that pushes, by its number: k pushes, which spend this charge and leave the levels L′, or none, and the levels L as they were
 
@@ -33,6 +39,11 @@ module _ {why : ℕ} (k charge : ℕ) (L L′ : List ℕ) where
 
   pub pushes-done : {a : Pushes} {left : List ℕ} → a ≡ donePushes k charge → why ≡ 0 → left ≡ L′ → Answered why k charge L L′ a left
   pushes-done e z is = (e ∙ rw z, is ∙ answered (λ number left. left) L′ L z)
+
+-- and what it spends, where that is known of what it answers and leaves
+pub with-spent : (L : List ℕ) {answer a : Pushes} {levels left : List ℕ} → Spends L levels (answer .charge) → (a ≡ answer) × (left ≡ levels)
+    → (a ≡ answer) × ((left ≡ levels) × Spends L left (a .charge))
+with-spent L s p = (p .0, (p .1, rw (p .0, p .1) s))
 
 -- ---- the push at place i
 
@@ -59,6 +70,18 @@ module _ (L : List ℕ) (i : ℕ) where
       unfolding placeNumber
       place-done h = rw (read-done r, le-leb 2 i low, le-leb i (length L) high) (ceiling-done L 1 h)
 
+  -- the sum of the levels grows by what it spends
+  pub place-spends : Spends L (placeLevels L i) (placeAnswer L i .charge)
+  unfolding placeAnswer placeLevels placeNumber
+  place-spends =
+      given-sum (placeNumber L i) L _ _
+      (λ e.
+      let test = tested (leb 2 i && leb i (length L)) (λ z. omega arith) (orElse-done _ (ceilingOf L 1) (orElse-done (readNumber L) _ e .1) .0) in
+      let b = and-eq-true-iff (leb 2 i) (leb i (length L)) .0 test in
+      let low = leb-true 2 i (b .0) in let high = leb-true i (length L) (b .1) in
+      let inside = entry-inside (permutationOf-permutation L) (i - 1) (omega (arith, low, high, permutationOf-length L)) in
+      push-sum L (cellAt i (permutationOf L)) (inside .0) (inside .1))
+
 -- ---- reading
 
 pub read-sorted : {L cells : List ℕ} → Readable L → cells ≡ row (permutationOf L)
@@ -69,6 +92,10 @@ read-sorted {L} r e =
     ∙ answered permutedWith (permutationOf L) [] (read-done r)
 
 -- ---- a call of count up with k
+
+pub call-spends : (k : ℕ) (L : List ℕ) → Spends L (callLevels k L) (callAnswer L k .charge)
+unfolding callAnswer callCharge
+call-spends k L = spending L .call k
 
 -- it is done, and this is the highest level
 pub record Granted (k : ℕ) (L : List ℕ) (top : ℕ) : Type 0 where

@@ -3,6 +3,7 @@ ghost use mathlib.Core.Path.{_≡_};
 ghost use Rattle.theory.specs.Permutation.{row};
 ghost use Rattle.theory.specs.Levels.{permutationOf, pushLevel, jump};
 ghost use Rattle.theory.specs.CountUp as meaning;
+ghost use Rattle.theory.specs.Spent.{Spends};
 ghost use Rattle.charge.specs.Answers.{callAnswer};
 ghost use Rattle.charge.specs.Counting.{Ready, Counted};
 use super::answers::Pushes;
@@ -75,6 +76,7 @@ fn count_steps(levels: &mut [u16], cells: &mut [u8; 20], top: u16, k: u16) -> u3
 pub fn count_up(levels: &mut [u16], k: u32) -> Pushes
     ensures answer { λ r. ⌜ r ≡ callAnswer (now (levels .entry)) k ⌝ }
     ensures levels_left { λ _. ⌜ now (levels .exit) ≡ meaning.callLevels k (now (levels .entry)) ⌝ }
+    ensures spent { λ r. ⌜ Spends (now (levels .entry)) (now (levels .exit)) (r .charge) ⌝ }
 {
     let call = judge_call(levels, k);
     let number = call.number;

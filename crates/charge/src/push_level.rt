@@ -1,5 +1,6 @@
 // A push on levels: the level of the cell at a place becomes the highest plus 1, and no other changes.
 ghost use mathlib.Core.Path.{_≡_};
+ghost use Rattle.theory.specs.Spent.{Spends};
 ghost use Rattle.charge.specs.Answers.{placeAnswer, placeLevels};
 use super::answers::Pushes;
 use super::answers::done_pushes;
@@ -14,6 +15,7 @@ use permutation::reasons::VALUE;
 pub fn push_level(levels: &mut [u16], place: usize) -> Pushes
     ensures answer { λ r. ⌜ r ≡ placeAnswer (now (levels .entry)) place ⌝ }
     ensures levels_left { λ _. ⌜ now (levels .exit) ≡ placeLevels (now (levels .entry)) place ⌝ }
+    ensures spent { λ r. ⌜ Spends (now (levels .entry)) (now (levels .exit)) (r .charge) ⌝ }
 {
     let number = read_number(levels);
     if number != 0 {

@@ -7,7 +7,7 @@ use native.Mathlib.Omega.{arith}
 use lib.ListN.{length, getD, take, set}
 use lib.Seq.{take-suc}
 use Rattle.theory.specs.Reasons.{maxLevel}
-use Rattle.theory.specs.Levels.{highest, pushLevel, pushLevels, jump}
+use Rattle.theory.specs.Levels.{highest, pushLevel, pushLevels}
 use Rattle.theory.specs.Spent.{chargeOf}
 use Rattle.theory.proofs.Moves.{reverse-split}
 use Rattle.theory.proofs.Reading.{pushed-length, pushed-highest, pushed-jump}

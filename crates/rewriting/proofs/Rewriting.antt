@@ -12,12 +12,13 @@ use Rattle.theory.specs.Permutation.{IsPermutation, row}
 use Rattle.theory.specs.Levels.{permutationOf, pushLevels, readNumber}
 use Rattle.theory.specs.CountUp.{ceilingOf}
 use Rattle.theory.specs.Rewrite.{rewriteCount, rewritePushes}
-use Rattle.theory.specs.Spent.{chargeOf}
+use Rattle.theory.specs.Spent.{Spends, chargeOf}
 use Rattle.theory.specs.Claims.{Rewriting}
 use Rattle.theory.proofs.Members.{entry-inside}
 use Rattle.theory.proofs.Sorting.{permutationOf-permutation}
 use Rattle.theory.proofs.Reading as theory
 use Rattle.theory.proofs.Rewriting.{rewriting}
+use Rattle.theory.proofs.Spent.{row-sum, given-sum}
 use Rattle.permutation.specs.Records.{listOf, recordOf, recordNumber}
 use Rattle.theory.specs.Refusal.{given, sizeOf}
 use Rattle.permutation.specs.declared.answers.Permutation.{Permutation}
@@ -27,7 +28,7 @@ use Rattle.permutation.proofs.Answering.{permutedWith}
 use Rattle.charge.specs.Answers.{noPushes, pushesOf, readAnswer}
 use Rattle.charge.specs.declared.answers.Pushes.{Pushes}
 use Rattle.charge.proofs.Sorting.{row-first}
-use Rattle.charge.proofs.Numbers.{pushes-refused}
+use Rattle.charge.proofs.Numbers.{pushes-refused, with-spent}
 use Rattle.rewriting.specs.Answers.{fitOf, pushesTo, targetNumber, rewriteNumber, rewriteAnswer, rewriteLevels, rewriteList, RewriteOf}
 use Rattle.rewriting.specs.Raising.{Pushable, raised}
 use Rattle.charge.proofs.ReadLevels.{row-readable}
@@ -113,6 +114,13 @@ rewrite-readable {L} r target room =
     given-so Readable (rewriteNumber L target room) _ L r
     (λ z. row-readable (rewritePushes (permutationOf L) (listOf target)) (rewrites (judged (orElse-done (targetNumber L target room) _ z .0)) .cells) r)
 
+-- and the sum of the levels grows by what is spent
+rewrite-spends : (L : List ℕ) (target : Permutation) (room : ℕ) → Spends L (rewriteLevels L target room) (rewriteAnswer L target room .charge)
+unfolding rewriteAnswer rewriteLevels rewriteNumber
+rewrite-spends L target room =
+    given-sum (rewriteNumber L target room) L _ _
+    (λ z. row-sum (rewritePushes (permutationOf L) (listOf target)) L (rewrites (judged (orElse-done (targetNumber L target room) _ z .0)) .cells))
+
 -- ---- the answer
 
 -- what the contract says of an answer, and of the levels and the list that are left
@@ -121,7 +129,7 @@ Answered L target list a L′ list′ =
     (a ≡ rewriteAnswer L target (length list))
     × ((L′ ≡ rewriteLevels L target (length list))
     × ((list′ ≡ rewriteList L target list)
-    × (a .number ≡ 0 → RewriteOf L target L′ (a .pushes))))
+    × ((a .number ≡ 0 → RewriteOf L target L′ (a .pushes)) × Spends L L′ (a .charge))))
 
 module _ (L : List ℕ) (target : Permutation) (list : List ℕ) where
   pub rewrite-fault : {a : Pushes} {number : ℕ} → a ≡ noPushes number → number ≡ targetNumber L target (length list) → (number ≡ 0 → ⊥)
@@ -131,7 +139,16 @@ module _ (L : List ℕ) (target : Permutation) (list : List ℕ) where
       let is = orElse-refused (targetNumber L target (length list)) (ceilingOf L (pushesTo L target)) fault ne in
       let cs : List ℕ = rewritePushes (permutationOf L) (listOf target) in
       let b = pushes-refused (pushesTo L target) (chargeOf cs L) L (pushLevels cs L) e is ne in
-      (b .0, (b .1, (refused (λ number left. left) (cs ++ drop (pushesTo L target) list) list is ne, λ z. absurd (ne (sym (ap (λ (a : Pushes). a .number) e) ∙ z)))))
+      let s = with-spent L (rewrite-spends L target (length list)) b in (
+        s .0,
+        (
+          s .1 .0,
+          (
+            refused (λ number left. left) (cs ++ drop (pushesTo L target) list) list is ne,
+            (λ z. absurd (ne (sym (ap (λ (a : Pushes). a .number) e) ∙ z)), s .1 .1),
+          ),
+        ),
+      )
 
   -- the answer of r pushes is that of the job where r is its number of pushes, and the list gets their names where it is done
   module _ (j : Judged L target (length list)) (long : length (target .cells) ≡ 20) {r : ℕ} {a : Pushes} {L′ : List ℕ}
@@ -149,15 +166,21 @@ module _ (L : List ℕ) (target : Permutation) (list : List ℕ) where
     all-answered : {list′ : List ℕ} → list′ ≡ given (ceilingOf L r) names list → Answered L target list a L′ list′
     unfolding rewriteAnswer rewriteLevels rewriteList raised names
     all-answered list-is =
-        let left : L′ ≡ given (ceilingOf L r) (pushLevels (rewritePushes (permutationOf L) (listOf target)) L) L = k .1 ∙ rw (pushes-are j is) in (
-          k .0 ∙ rw (reason-is, pushes-are j is, is),
+        let left : L′ ≡ given (ceilingOf L r) (pushLevels (rewritePushes (permutationOf L) (listOf target)) L) L = k .1 ∙ rw (pushes-are j is) in
+        let answer : a ≡ rewriteAnswer L target (length list) = k .0 ∙ rw (reason-is, pushes-are j is, is) in
+        let levels : L′ ≡ rewriteLevels L target (length list) = left ∙ rw reason-is in
+        let s = with-spent L (rewrite-spends L target (length list)) (answer, levels) in (
+          s .0,
           (
-            left ∙ rw reason-is,
+            s .1 .0,
             (
               list-is ∙ rw (reason-is, pushes-are j is, is),
-              λ z.
-                  let done : L′ ≡ _ = left ∙ given-done (ceilingOf L r) _ L (sym number-is ∙ z) in
-                  rewrite-read j long done (ap (λ (b : Pushes). b .pushes) (k .0) ∙ given-done (ceilingOf L r) r 0 (sym number-is ∙ z) ∙ is),
+              (
+                λ z.
+                    let done : L′ ≡ _ = left ∙ given-done (ceilingOf L r) _ L (sym number-is ∙ z) in
+                    rewrite-read j long done (ap (λ (b : Pushes). b .pushes) (k .0) ∙ given-done (ceilingOf L r) r 0 (sym number-is ∙ z) ∙ is),
+                s .1 .1,
+              ),
             ),
           ),
         )

@@ -4,6 +4,7 @@ ghost use mathlib.Core.List.{_++_, reverse};
 ghost use Prim.Native.Nat.{_≤_};
 ghost use lib.ListN.{length, take, drop};
 ghost use Rattle.theory.specs.Rewrite as meaning;
+ghost use Rattle.theory.specs.Spent.{Spends};
 ghost use Rattle.rewriting.specs.Answers.{targetNumber, rewriteAnswer, rewriteLevels, rewriteList, RewriteOf};
 use super::raise::raise;
 use charge::answers::Pushes;
@@ -74,6 +75,7 @@ pub fn rewrite(levels: &mut [u16], target: Permutation, list: &mut [u8]) -> Push
     ensures levels_left { λ _. ⌜ now (levels .exit) ≡ rewriteLevels (now (levels .entry)) target (length (now (list .entry))) ⌝ }
     ensures list_left { λ _. ⌜ now (list .exit) ≡ rewriteList (now (levels .entry)) target (now (list .entry)) ⌝ }
     ensures reached { λ r. ⌜ (r .number ≡ 0 → RewriteOf (now (levels .entry)) target (now (levels .exit)) (r .pushes)) ⌝ }
+    ensures spent { λ r. ⌜ Spends (now (levels .entry)) (now (levels .exit)) (r .charge) ⌝ }
 {
     let number = judge(levels, target, list.len());
     if number != 0 {

@@ -1,25 +1,24 @@
 -- A list of count-up calls: what holds when some of them were made, and demand 3 of the whole. Assumes nothing.
-use mathlib.Core.Path.{_≡_, refl, sym, ap, ap₂, subst, _∙_}
+use mathlib.Core.Path.{_≡_, refl, ap, ap₂, subst, _∙_}
 use mathlib.Core.Bool.{cond}
 use mathlib.Core.List.{List, [], _∷_, _++_}
 use Prim.Native.Nat.{ℕ, zero, suc, _+_, _≤_, _<_}
 use native.Mathlib.Omega.{arith}
-use native.Mathlib.Numerals.{add-one}
 use borrow.Author.Tests.{le-leb, lt-leb}
 use lib.Dec.{eqb}
 use lib.ListN.{length, getD, take, drop, set, List·getD-append}
-use lib.Seq.{take-suc, take-all, take-length}
+use lib.Seq.{take-all, take-length}
 use Rattle.theory.specs.Reasons.{done, fit}
 use Rattle.theory.specs.Levels.{highest, permutationOf}
 use Rattle.theory.specs.CountUp.{callNumber, callPushes, callLevels}
 use Rattle.theory.specs.Run.{stepLevels, afterCalls, callNumbers, stepsDone}
-use Rattle.theory.specs.Spent.{levelSum, callCharge, callsCharge}
+use Rattle.theory.specs.Spent.{Spends, callCharge, callsCharge}
 use Rattle.theory.specs.Demand3.{Start, Demand3}
 use Rattle.theory.proofs.Refusal.{refused, answered}
 use Rattle.theory.proofs.FilledRow.{filled-all}
-use Rattle.theory.proofs.InTurn.{InTurn, turn-none, turn-more, turn-left}
-use Rattle.theory.proofs.CallLists.{after-next, done-snoc, numbers-long, after-length, number-at, steps-fit}
-use Rattle.theory.proofs.Spent.{charge-snoc, calls-fit, spending}
+use Rattle.theory.proofs.InTurn.{added-next, InTurn, turn-none, turn-more, turn-left}
+use Rattle.theory.proofs.CallLists.{after-next, numbers-long, after-length, number-at, steps-fit}
+use Rattle.theory.proofs.Spent.{calls-fit, spending}
 use Rattle.theory.proofs.Demand3.{demand3}
 use Rattle.charge.specs.Answers.{noPushes, donePushes, callAnswer}
 use Rattle.charge.specs.declared.answers.Pushes.{Pushes}
@@ -57,10 +56,12 @@ module _ {L ks numbers₀ : List ℕ} {i : ℕ} {levels numbers : List ℕ} {pus
     k = getD ks i 0
 
     next-pushes : pushes + callPushes k levels ≡ stepsDone (take (i + 1) ks) L
-    next-pushes = rw (add-one i, take-suc ks i 0 more, v .pushes-are, levels-are) (sym (done-snoc (take i ks) L k))
+    unfolding stepsDone
+    next-pushes = rw (v .pushes-are, v .in-turn .left) (added-next callLevels callPushes ks L i 0 more)
 
     next-charge : charge + callCharge k levels ≡ callsCharge (take (i + 1) ks) L
-    next-charge = rw (add-one i, take-suc ks i 0 more, v .charge-is, levels-are) (sym (charge-snoc (take i ks) L k))
+    unfolding callsCharge
+    next-charge = rw (v .charge-is, v .in-turn .left) (added-next callLevels callCharge ks L i 0 more)
 
     -- by the answer of the call, and the levels that it left
     pub made-more : (answer : Pushes) (after : List ℕ) → answer ≡ callAnswer levels k → after ≡ callLevels k levels
@@ -82,7 +83,7 @@ abbrev Answered : List ℕ → List ℕ → List ℕ → Pushes → List ℕ →
 Answered L ks numbers₀ a levels numbers =
     (a ≡ callsAnswer L ks numbers₀)
     × ((levels ≡ calledLevels L ks numbers₀)
-    × ((numbers ≡ calledNumbers L ks numbers₀) × (levelSum levels ≡ levelSum L + a .charge)))
+    × ((numbers ≡ calledNumbers L ks numbers₀) × Spends L levels (a .charge)))
 
 -- ---- all calls were made
 module _ {L ks numbers₀ : List ℕ} {i : ℕ} {levels numbers : List ℕ} {pushes charge : ℕ} (v : Made L ks numbers₀ i levels numbers pushes charge)

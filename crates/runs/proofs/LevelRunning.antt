@@ -11,12 +11,12 @@ use Rattle.theory.specs.Rank.{rank}
 use Rattle.theory.specs.Levels.{highest, topLessBottom, Gapless, readNumber, permutationOf, ReadsAs, pushLevel, jump}
 use Rattle.theory.specs.CountUp.{nextCell, countUp, ceilingOf, callNumber, callLevels}
 use Rattle.theory.specs.Run.{steps, stepLevels}
-use Rattle.theory.specs.Spent.{levelSum, callCharge}
+use Rattle.theory.specs.Spent.{levelSum, Spends, callCharge}
 use Rattle.theory.specs.Demand3.{Demand3}
 use Rattle.theory.proofs.Sorting.{permutationOf-permutation, reads-permutationOf, reads-untied, reads-is}
 use Rattle.theory.proofs.LevelRun.{run-length, run-reads, run-highest, next-top, countUp-run}
 use Rattle.theory.proofs.Calls.{calling}
-use Rattle.theory.proofs.Spent.{spending}
+use Rattle.theory.proofs.Spent.{sum-fits, step-sum, spending}
 use Rattle.theory.proofs.Demand3.{demand3}
 use Rattle.ranking.specs.Answers.{rankAnswer}
 use Rattle.permutation.specs.declared.answers.Permutation.{Permutation}
@@ -25,18 +25,19 @@ use Rattle.ranking.proofs.Values.{ranked-record}
 use Rattle.charge.specs.Answers.{readAnswer}
 use Rattle.theory.proofs.Refusal.{orElse-done, Readable, readable, ceiling-room}
 use Rattle.runs.specs.Steps.{pushCounts, countIn}
-use Rattle.runs.specs.LevelSteps.{levelsAfter, widest, largestRaise, levelRunAnswer, LevelsOf}
+use Rattle.runs.specs.LevelSteps.{levelsAfter, widest, largestRaise, noRun, levelRunAnswer, LevelsOf}
 use Rattle.runs.specs.declared.answers.RanLevels.{RanLevels}
 use Rattle.runs.proofs.PushCounts.{Tallied, tallied, counts-none, counts-at}
 use Rattle.runs.proofs.Running.{run-of}
 use Rattle.runs.proofs.OneStep.{reading-record}
 
--- `done` steps from L left these levels, with these counts and these bounds on the way
-pub record RunningLevels (L : List ℕ) (done : ℕ) (levels counts : List ℕ) (wide large : ℕ) : Type 0 where
+-- `done` steps from L left these levels, with these counts, this charge and these bounds on the way
+pub record RunningLevels (L : List ℕ) (done : ℕ) (levels counts : List ℕ) (charge wide large : ℕ) : Type 0 where
   pub levels-are : levels ≡ levelsAfter done L
   pub counted : counts ≡ row (pushCounts (length L) done (permutationOf L))
   pub widest-is : wide ≡ widest done L
   pub largest-is : large ≡ largestRaise done L
+  pub spent : Spends L levels charge
 
 -- a call by k would be done on L
 module _ (L : List ℕ) (k : ℕ) (g : callNumber k L ≡ 0) where
@@ -47,7 +48,7 @@ module _ (L : List ℕ) (k : ℕ) (g : callNumber k L ≡ 0) where
   few : 2 ≤ length L
   few = readable (past .0) .few
 
-  pub many : length L ≤ 20
+  many : length L ≤ 20
   many = readable (past .0) .many
 
   reads : ReadsAs L (permutationOf L)
@@ -59,13 +60,14 @@ module _ (L : List ℕ) (k : ℕ) (g : callNumber k L ≡ 0) where
   start : IsPermutation (length L) (permutationOf L)
   start = reads .permutation
 
-  pub levels-none : RunningLevels L 0 L (replicate 20 0) 0 0
+  pub levels-none : RunningLevels L 0 L (replicate 20 0) 0 0 0
   unfolding stepLevels widest largestRaise
   levels-none = record {
     levels-are = refl;
     counted = counts-none (length L) few many (permutationOf L);
     widest-is = refl;
     largest-is = refl;
+    spent = omega arith;
   }
 
   -- the levels after some of the steps
@@ -83,7 +85,7 @@ module _ (L : List ℕ) (k : ℕ) (g : callNumber k L ≡ 0) where
     unfolding steps
     pushed-next = next-top long reads-after
 
-  module _ (done : ℕ) (levels counts : List ℕ) (wide large : ℕ) (v : RunningLevels L done levels counts wide large) where
+  module _ (done : ℕ) (levels counts : List ℕ) (charge wide large : ℕ) (v : RunningLevels L done levels counts charge wide large) where
     pub levels-long : length levels ≡ length L
     levels-long = ap length (v .levels-are) ∙ long done
 
@@ -93,6 +95,14 @@ module _ (L : List ℕ) (k : ℕ) (g : callNumber k L ≡ 0) where
         (let size = long done in
         calling 1 (levelsAfter done L) .done (omega (arith, few)) (omega (arith, many)) (reads-untied (reads-after done))
         (omega (arith, highest-after done, ceiling-room L k (past .1))))
+
+    pub charge-fits : done ≤ k → charge ≤ 1310700
+    charge-fits within = omega (
+      arith,
+      v .spent,
+      sum-fits levels (omega (arith, many, levels-long))
+          (omega (arith, ap highest (v .levels-are), highest-after done, ceiling-room L k (past .1))),
+    )
 
     -- by what the step did, and the levels that it left
     module _ (cell raise spread : ℕ) (levels′ : List ℕ) (cell-is : cell ≡ nextCell levels) (raise-is : raise ≡ jump (nextCell levels) levels)
@@ -110,13 +120,15 @@ module _ (L : List ℕ) (k : ℕ) (g : callNumber k L ≡ 0) where
       unfolding stepLevels
       left-is = left ∙ ap₂ pushLevel next-is (v .levels-are)
 
-      pub levels-more : RunningLevels L (done + 1) levels′ (set counts (cell - 1) (getD counts (cell - 1) 0 + 1)) (max wide spread) (max large raise)
+      pub levels-more :
+          RunningLevels L (done + 1) levels′ (set counts (cell - 1) (getD counts (cell - 1) 0 + 1)) (charge + raise) (max wide spread) (max large raise)
       unfolding widest largestRaise
       levels-more = rw (add-one done) (record {
         levels-are = left-is;
         counted = step-tallied .counted;
         widest-is = ap₂ max (v .widest-is) (spread-is ∙ ap topLessBottom left-is);
         largest-is = ap₂ max (v .largest-is) (raise-is ∙ ap₂ jump next-is (v .levels-are));
+        spent = rw left (omega (arith, v .spent, raise-is, step-sum levels (omega (arith, few, levels-long))));
       })
 
   -- from levels without a gap
@@ -130,63 +142,54 @@ module _ (L : List ℕ) (k : ℕ) (g : callNumber k L ≡ 0) where
   largest-bound gapless zero = omega arith
   largest-bound gapless (suc j) = omega (arith, largest-bound gapless j, d .jumps L refl gapless j)
 
-  -- ---- all k steps were done
-  module _ (levels counts : List ℕ) (wide large : ℕ) (v : RunningLevels L k levels counts wide large) where
+  -- ---- all k steps were done; p is read from the levels, and r is its rank
+  module _ (levels counts : List ℕ) (charge wide large : ℕ) (v : RunningLevels L k levels counts charge wide large) (p : Permutation) (r : ℕ)
+      (stands : p ≡ readAnswer levels .permutation) (ranks : r ≡ rankAnswer p .rank) where
+    still : Readable levels
+    still = rw (v .levels-are)
+        (let size = long k in
+        record { few = omega (arith, few); many = omega (arith, many); untied = reads-untied (reads-after k) })
+
+    is : r ≡ rank (length L) (permutationOf levels)
+    is =
+        ranks ∙ ap (λ (q : Permutation). rankAnswer q .rank) (stands ∙ reading-record still)
+        ∙ ap (λ (a : Ranked). a .rank) (ranked-record (length levels) (permutationOf levels) (still .few) (still .many) (permutationOf-permutation levels))
+        ∙ ap (λ (n : ℕ). rank n (permutationOf levels)) (levels-long k levels counts charge wide large v)
+
     counted-up : levels ≡ countUp k L
     counted-up = v .levels-are ∙ sym (countUp-run (length L) few k L (permutationOf L) refl reads)
 
     pub levels-left : levels ≡ callLevels k L
     levels-left = counted-up ∙ sym (calling k L .counted g .1)
 
-    still : Readable levels
-    still = rw (v .levels-are)
-        (let size = long k in
-        record { few = omega (arith, few); many = omega (arith, many); untied = reads-untied (reads-after k) })
+    abbrev answer : RanLevels
+    answer = record { number = 0; pushes = k; charge = charge; counts = counts; widest = wide; largest = large; rank = r }
 
-    -- by the sums of the levels before and after
-    module _ (before after : ℕ) (before-is : before ≡ levelSum L) (after-is : after ≡ levelSum levels) where
-      pub grown : after ≡ before + callCharge k L
-      grown = after-is ∙ ap levelSum levels-left ∙ spending L .call k ∙ ap (λ (s : ℕ). s + callCharge k L) (sym before-is)
+    charge-is : charge ≡ callCharge k L
+    charge-is = omega (arith, v .spent, ap levelSum levels-left, spending L .call k)
 
-      pub levels-spent : levelSum levels ≡ levelSum L + (after - before)
-      levels-spent = omega (arith, before-is, after-is, grown)
+    pub ran-levels-left : answer ≡ levelRunAnswer L k
+    unfolding levelRunAnswer
+    ran-levels-left = rw (charge-is, g, calling k L .counted g .0, v .counted, v .widest-is, v .largest-is, is, counted-up)
 
-      -- p is read from the levels, and r is its rank
-      module _ (p : Permutation) (r : ℕ) (stands : p ≡ readAnswer levels .permutation) (ranks : r ≡ rankAnswer p .rank) where
-        is : r ≡ rank (length L) (permutationOf levels)
-        is =
-            ranks ∙ ap (λ (q : Permutation). rankAnswer q .rank) (stands ∙ reading-record still)
-            ∙ ap (λ (a : Ranked). a .rank) (ranked-record (length levels) (permutationOf levels) (still .few) (still .many) (permutationOf-permutation levels))
-            ∙ ap (λ (n : ℕ). rank n (permutationOf levels)) (levels-long k levels counts wide large v)
-
-        abbrev answer : RanLevels
-        answer = record { number = 0; pushes = k; charge = after - before; counts = counts; widest = wide; largest = large; rank = r }
-
-        pub ran-levels-left : answer ≡ levelRunAnswer L k
-        unfolding levelRunAnswer
-        ran-levels-left =
-            let charge : after - before ≡ callCharge k L = omega (arith, grown) in
-            rw (charge, g, calling k L .counted g .0, v .counted, v .widest-is, v .largest-is, is, counted-up)
-
-        pub levels-of : LevelsOf L k levels answer
-        levels-of = record {
-          pushes = refl;
-          levels = counted-up;
-          stepped = v .levels-are;
-          highest-level = ap highest (v .levels-are) ∙ highest-after k;
-          start = start;
-          run =
-              run-of (length L) few (permutationOf L) start k (permutationOf levels) r (countIn counts)
-              (ap permutationOf (v .levels-are) ∙ reads-is (reads-after k)) is (counts-at (length L) few many (permutationOf L) k counts (v .counted));
-          gap = λ gapless. rw (v .widest-is) (widest-bound gapless k);
-          jumps = λ gapless. rw (v .largest-is) (largest-bound gapless k);
-        }
+    pub levels-of : LevelsOf L k levels answer
+    levels-of = record {
+      pushes = refl;
+      levels = counted-up;
+      stepped = v .levels-are;
+      highest-level = ap highest (v .levels-are) ∙ highest-after k;
+      start = start;
+      run =
+          run-of (length L) few (permutationOf L) start k (permutationOf levels) r (countIn counts)
+          (ap permutationOf (v .levels-are) ∙ reads-is (reads-after k)) is (counts-at (length L) few many (permutationOf L) k counts (v .counted));
+      gap = λ gapless. rw (v .widest-is) (widest-bound gapless k);
+      jumps = λ gapless. rw (v .largest-is) (largest-bound gapless k);
+    }
 
 -- a run that is refused
-pub ran-levels-refused : (L : List ℕ) (k number : ℕ) → number ≡ callNumber k L → (number ≡ 0 → ⊥)
-    → (_≡_ {A = RanLevels} (record { number = number; pushes = 0; charge = 0; counts = replicate 20 0; widest = 0; largest = 0; rank = 0 }) (levelRunAnswer L k))
-    × (L ≡ callLevels k L)
+pub ran-levels-refused : (L : List ℕ) (k : ℕ) {a : RanLevels} {number : ℕ} → a ≡ noRun number → number ≡ callNumber k L → (number ≡ 0 → ⊥)
+    → (a ≡ levelRunAnswer L k) × ((L ≡ callLevels k L) × Spends L L (a .charge))
 unfolding levelRunAnswer
-ran-levels-refused L k number e h =
+ran-levels-refused L k {number = number} is e h =
     let u = calling k L .unchanged (λ z. h (e ∙ z)) in
-    (rw (u .0, spending L .refused k (λ z. h (e ∙ z)), ← e, ne-eqb number 0 h), sym (u .1))
+    (is ∙ rw (u .0, spending L .refused k (λ z. h (e ∙ z)), ← e, ne-eqb number 0 h), (sym (u .1), rw is (omega arith)))

@@ -1,7 +1,7 @@
 -- One step on levels, by the answers of the jobs that it asks: read, successor, push. Assumes nothing.
 use mathlib.Core.Path.{_≡_, sym, ap, _∙_}
 use mathlib.Core.List.{List}
-use Prim.Native.Nat.{ℕ, suc, _-_, _≤_}
+use Prim.Native.Nat.{ℕ, _-_, _≤_}
 use native.Mathlib.Omega.{arith}
 use lib.ListN.{length, getD}
 use Rattle.theory.specs.Permutation.{cellAt}
@@ -11,13 +11,14 @@ use Rattle.theory.specs.CountUp.{nextCell, ceilingOf, callNumber}
 use Rattle.theory.proofs.Splits.{successor-bounds}
 use Rattle.theory.proofs.Sorting.{permutationOf-permutation}
 use Rattle.theory.proofs.Extremes.{level≤highest, lowest≤level}
-use Rattle.theory.proofs.Reading.{pushed-length, pushed-level}
+use Rattle.theory.proofs.Reading.{pushed-length, pushed-jump}
 use Rattle.permutation.specs.Records.{recordOf}
 use Rattle.permutation.specs.Answers.{successorAnswer}
 use Rattle.permutation.specs.declared.answers.Permutation.{Permutation}
 use Rattle.permutation.specs.declared.answers.Placed.{Placed}
 use Rattle.permutation.proofs.Answering.{placed-record}
-use Rattle.charge.specs.Answers.{readAnswer, placeNumber, placeLevels}
+use Rattle.charge.specs.Answers.{readAnswer, placeNumber, placeAnswer, placeLevels}
+use Rattle.charge.specs.declared.answers.Pushes.{Pushes}
 use Rattle.theory.proofs.Refusal.{given-done, orElse-done, Readable, read-done, readable, ceiling-room}
 use Rattle.charge.proofs.Numbers.{place-done}
 use Rattle.charge.proofs.Pushing.{PlacedCell, placed-cell}
@@ -27,13 +28,13 @@ pub reading-record : {L : List ℕ} → Readable L → readAnswer L .permutation
 unfolding readAnswer
 reading-record r = rw (read-done r)
 
--- a step on L that pushed this cell and left these levels
-pub record StepDone (L : List ℕ) (cell : ℕ) (after : List ℕ) : Type 0 where
+-- a step on L that pushed this cell, by this much, and left these levels
+pub record StepDone (L : List ℕ) (cell raise : ℕ) (after : List ℕ) : Type 0 where
   pub cell-is : cell ≡ nextCell L
   pub levels-are : after ≡ pushLevel (nextCell L) L
   pub long : length after ≡ length L
-  pub raises : getD L (cell - 1) 0 ≤ getD after (cell - 1) 0
-  pub raise-is : getD after (cell - 1) 0 - getD L (cell - 1) 0 ≡ jump (nextCell L) L
+  pub raise-is : raise ≡ jump (nextCell L) L
+  pub raise-fits : raise ≤ 65535
   pub bottom≤top : lowest after ≤ highest after
 
 -- a count-up call by 1 would be done on L
@@ -74,31 +75,34 @@ module _ (L : List ℕ) (g : callNumber 1 L ≡ 0) where
       cell-inside = (stands-there .low, stands-there .high)
 
       -- its push is done
-      module _ (after : List ℕ) (pushed : after ≡ placeLevels L place) where
+      module _ (answer : Pushes) (after : List ℕ) (answered : answer ≡ placeAnswer L place) (pushed : after ≡ placeLevels L place) where
+        done : placeNumber L place ≡ 0
+        done = place-done L place faultless (place-bounds .0) (place-bounds .1) (ceiling-room L 1 (past .1))
+
         after-is : after ≡ pushLevel (nextCell L) L
         unfolding placeLevels
         after-is =
             pushed
-            ∙ given-done (placeNumber L place) _ L (place-done L place faultless (place-bounds .0) (place-bounds .1) (ceiling-room L 1 (past .1)))
+            ∙ given-done (placeNumber L place) _ L done
             ∙ ap (λ (c : ℕ). pushLevel c L) (sym (stands-there .is) ∙ cell-next)
 
-        after-long : length after ≡ length L
-        after-long = ap length after-is ∙ pushed-length (nextCell L) L
+        jump-is : answer .charge ≡ jump (nextCell L) L
+        unfolding placeAnswer
+        jump-is =
+            ap (λ (a : Pushes). a .charge) answered
+            ∙ given-done (placeNumber L place) _ 0 done
+            ∙ ap (λ (c : ℕ). jump c L) (sym (stands-there .is) ∙ cell-next)
 
-        level-after : getD after (cell - 1) 0 ≡ suc (highest L)
-        level-after =
-            rw (after-is, cell-next) (let b = cell-inside in pushed-level L (nextCell L) (rw cell-next at (b .0)) (rw cell-next at (b .1)))
-
-        pub step-done : StepDone L cell after
-        unfolding jump
+        pub step-done : StepDone L cell (answer .charge) after
         step-done =
-            let size = after-long in
+            let long : length after ≡ length L = ap length after-is ∙ pushed-length (nextCell L) L in
+            let b = rw cell-next at cell-inside in
             record {
               cell-is = cell-next;
               levels-are = after-is;
-              long = after-long;
-              raises = omega (arith, level-after, level≤highest L cell);
-              raise-is = rw (after-is, cell-next);
+              long = long;
+              raise-is = jump-is;
+              raise-fits = omega (arith, jump-is, pushed-jump L (nextCell L) (b .0) (b .1), ceiling-room L 1 (past .1));
               bottom≤top =
                   omega (arith, lowest≤level after cell (cell-inside .0) (omega (arith, cell-inside .1)), level≤highest after cell);
             }

@@ -27,7 +27,11 @@ unfoldable pub largestRaise : ℕ → List ℕ → ℕ
 largestRaise zero L = 0
 largestRaise (suc k) L = max (largestRaise k L) (jump (top (steps (length L) (suc k) (permutationOf L))) (levelsAfter k L))
 
--- refused as a count-up call by k is, with zeros beside the number
+-- zeros beside the number of a refusal
+abbrev pub noRun : ℕ → RanLevels
+noRun number = record { number = number; pushes = 0; charge = 0; counts = row []; widest = 0; largest = 0; rank = 0 }
+
+-- refused as a count-up call by k is
 unfoldable pub levelRunAnswer : List ℕ → ℕ → RanLevels
 levelRunAnswer L k = record {
   number = callNumber k L;

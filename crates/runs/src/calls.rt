@@ -1,8 +1,8 @@
 // A list of count-up calls, each on the levels as the last one left them.
 ghost use mathlib.Core.Path.{_≡_};
-ghost use Prim.Native.Nat.{_+_, _≤_};
+ghost use Prim.Native.Nat.{_≤_};
 ghost use lib.ListN.{length};
-ghost use Rattle.theory.specs.Spent.{levelSum};
+ghost use Rattle.theory.specs.Spent.{Spends};
 ghost use Rattle.theory.specs.Demand3.{Start};
 ghost use Rattle.runs.specs.Calls.{callsAnswer, calledLevels, calledNumbers, CallsOf};
 use charge::answers::Pushes;
@@ -18,7 +18,7 @@ pub fn run_calls(levels: &mut [u16], counts: &[u32], numbers: &mut [u8]) -> Push
     ensures answer { λ r. ⌜ r ≡ callsAnswer (now (levels .entry)) (now (counts .entry)) (now (numbers .entry)) ⌝ }
     ensures levels_left { λ _. ⌜ now (levels .exit) ≡ calledLevels (now (levels .entry)) (now (counts .entry)) (now (numbers .entry)) ⌝ }
     ensures numbers_left { λ _. ⌜ now (numbers .exit) ≡ calledNumbers (now (levels .entry)) (now (counts .entry)) (now (numbers .entry)) ⌝ }
-    ensures spent { λ r. ⌜ levelSum (now (levels .exit)) ≡ levelSum (now (levels .entry)) + r .charge ⌝ }
+    ensures spent { λ r. ⌜ Spends (now (levels .entry)) (now (levels .exit)) (r .charge) ⌝ }
     ensures demand3 { λ r. ⌜ (r .number ≡ 0 → 2 ≤ length (now (levels .entry)) → Start (length (now (levels .entry))) (now (levels .entry))
         → CallsOf (now (levels .entry)) (now (counts .entry)) (now (levels .exit)) (now (numbers .exit)) (r .pushes)) ⌝ }
 {

@@ -15,7 +15,7 @@ use Rattle.theory.specs.Levels.{level, tied, readNumber, permutationOf, pushLev
 use Rattle.theory.specs.CountUp.{ceilingOf}
 use Rattle.theory.specs.Prefix.{IsPrefix, prefixLength, symbolPrefix}
 use Rattle.theory.specs.Store.{storePushes}
-use Rattle.theory.specs.Spent.{chargeOf}
+use Rattle.theory.specs.Spent.{Spends, chargeOf}
 use Rattle.theory.specs.Claims.{Storing, SymbolStoring}
 use Rattle.theory.proofs.Refusal.{given-done, given-so, orElse-refused, orElse-done, size-done, Readable, readable, read-done}
 use Rattle.theory.proofs.Members.{entry-inside}
@@ -24,10 +24,11 @@ use Rattle.theory.proofs.Sorting.{permutationOf-permutation}
 use Rattle.theory.proofs.Reading.{reading, row-length}
 use Rattle.theory.proofs.Prefixes.{permutation-prefix, prefixLength-short}
 use Rattle.theory.proofs.Storing.{storing, symbol-storing}
+use Rattle.theory.proofs.Spent.{row-sum, given-sum}
 use Rattle.charge.specs.Answers as charge
 use Rattle.charge.specs.Answers.{noPushes, pushesOf}
 use Rattle.charge.specs.declared.answers.Pushes.{Pushes}
-use Rattle.charge.proofs.Numbers.{pushes-refused}
+use Rattle.charge.proofs.Numbers.{pushes-refused, with-spent}
 use Rattle.charge.proofs.ReadLevels.{row-readable}
 use Rattle.rewriting.specs.Raising.{Pushable, raised}
 use Rattle.symbols.specs.declared.answers.Prefixed.{Prefixed}
@@ -181,15 +182,27 @@ store-readable {L} r m s =
     let finds = orElse-done (codeNumber (length L) m s) _ (orElse-done (readNumber L) _ z .1) .0 in
     prefix-readable r (symbol-stores L m s (in-range finds) .prefix))
 
+-- and the sum of the levels grows by what is spent
+store-spends : (L : List ℕ) (m s : ℕ) → Spends L (storeLevels L m s) (storeAnswer L m s .charge)
+unfolding leadAnswer leadLevels leadNumber
+store-spends L m s =
+    given-sum (storeNumber L m s) L _ _
+    (λ z.
+    let past = orElse-done (readNumber L) _ z in
+    let finds = orElse-done (codeNumber (length L) m s) _ (past .1) .0 in
+    row-sum (storePushes (prefixOn L m s) (permutationOf L)) L (stores (readable (past .0)) (symbol-stores L m s (in-range finds) .prefix) .cells))
+
 -- what the contract says of an answer, and of the levels that are left
 abbrev Answered : List ℕ → ℕ → ℕ → Pushes → List ℕ → Type 0
-Answered L m s a L′ = (a ≡ storeAnswer L m s) × ((L′ ≡ storeLevels L m s) × (a .number ≡ 0 → StoreOf L m s L′ (a .pushes)))
+Answered L m s a L′ =
+    (a ≡ storeAnswer L m s) × ((L′ ≡ storeLevels L m s) × ((a .number ≡ 0 → StoreOf L m s L′ (a .pushes)) × Spends L L′ (a .charge)))
 
 pub store-refused : (L : List ℕ) (m s : ℕ) {a : Pushes} {number : ℕ} → a ≡ noPushes number → number ≡ storeNumber L m s → (number ≡ 0 → ⊥)
     → Answered L m s a L
 store-refused L m s e is ne =
     let b = lead-refused (codeNumber (length L) m s) L (prefixOn L m s) e is ne in
-    (b .0, (b .1 .0, λ z. absurd (not-done e ne z)))
+    let t = with-spent L (store-spends L m s) (b .0, b .1 .0) in
+    (t .0, (t .1 .0, (λ z. absurd (not-done e ne z), t .1 .1)))
 
 pub row-number : (n m s : ℕ) {found : Prefixed} → found ≡ rowAnswer n m s → found .number ≡ codeNumber n m s
 unfolding rowAnswer
@@ -238,16 +251,20 @@ module _ (L : List ℕ) (m s : ℕ) {found : Prefixed} (e : found ≡ rowAnswer 
   unfolding leadAnswer leadLevels leadNumber
   found-stored {a} {L′} k =
       let left : L′ ≡ storeLevels L m s = k .1 .0 ∙ rw (front-is, number-done) in
-      let answer : a ≡ storeAnswer L m s = k .0 ∙ rw (front-is, number-done) in (
-        answer,
+      let answer : a ≡ storeAnswer L m s = k .0 ∙ rw (front-is, number-done) in
+      let t = with-spent L (store-spends L m s) (answer, left) in (
+        t .0,
         (
-          left,
-          λ z.
-              let none : storeNumber L m s ≡ 0 = sym (ap (λ (b : Pushes). b .number) answer) ∙ z in
-              let now = readable (orElse-done (readNumber L) _ none .0) in
-              record {
-                led = rw front-is at (k .1 .1 z);
-                read-back = rw (left ∙ given-done (storeNumber L m s) _ L none) (symbol-read L m s codes now);
-              },
+          t .1 .0,
+          (
+            λ z.
+                let none : storeNumber L m s ≡ 0 = sym (ap (λ (b : Pushes). b .number) answer) ∙ z in
+                let now = readable (orElse-done (readNumber L) _ none .0) in
+                record {
+                  led = rw front-is at (k .1 .1 z);
+                  read-back = rw (left ∙ given-done (storeNumber L m s) _ L none) (symbol-read L m s codes now);
+                },
+            t .1 .1,
+          ),
         ),
       )

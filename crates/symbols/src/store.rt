@@ -5,6 +5,7 @@ ghost use Prim.Native.Nat.{_≤_, _<_};
 ghost use lib.ListN.{length, take, drop};
 ghost use Rattle.theory.specs.Permutation.{IsPermutation};
 ghost use Rattle.theory.specs.Levels as meaning;
+ghost use Rattle.theory.specs.Spent.{Spends};
 ghost use Rattle.symbols.specs.Answers.{leadAnswer, leadLevels, storeAnswer, storeLevels, LedBy, StoreOf};
 ghost use Rattle.symbols.specs.AnyPrefix.{Storable, FallsFrom};
 use super::row::prefix_row;
@@ -81,6 +82,7 @@ pub fn store(levels: &mut [u16], m: u64, symbol: u64) -> Pushes
     ensures answer { λ r. ⌜ r ≡ storeAnswer (now (levels .entry)) m symbol ⌝ }
     ensures levels_left { λ _. ⌜ now (levels .exit) ≡ storeLevels (now (levels .entry)) m symbol ⌝ }
     ensures stored { λ r. ⌜ (r .number ≡ 0 → StoreOf (now (levels .entry)) m symbol (now (levels .exit)) (r .pushes)) ⌝ }
+    ensures spent { λ r. ⌜ Spends (now (levels .entry)) (now (levels .exit)) (r .charge) ⌝ }
 {
     let found = prefix_row(levels.len(), m, symbol);
     if found.number != 0 {

@@ -1,12 +1,12 @@
 -- Lists of count-up calls, whatever the levels: one call more, the number of each, how many levels they leave, and a bound on the steps done.
 -- Assumes nothing.
 use mathlib.Core.Path.{_≡_, refl, ap, _∙_}
-use mathlib.Core.List.{List, [], _∷_, _++_}
-use Prim.Native.Nat.{ℕ, zero, suc, _+_, _-_, _≤_, _<_}
+use mathlib.Core.List.{List, [], _∷_}
+use Prim.Native.Nat.{ℕ, zero, suc, _-_, _≤_, _<_}
 use native.Mathlib.Omega.{arith}
 use lib.ListN.{length, getD, take}
 use Rattle.theory.specs.Levels.{highest, readNumber, pushLevel}
-use Rattle.theory.specs.CountUp.{nextCell, countUp, ceilingOf, callNumber, callPushes, callLevels}
+use Rattle.theory.specs.CountUp.{nextCell, countUp, ceilingOf, callNumber, callLevels}
 use Rattle.theory.specs.Run.{afterCalls, callNumbers, stepsDone}
 use Rattle.theory.specs.Demand3.{Start}
 use Rattle.theory.proofs.Cases.{by-name}
@@ -20,11 +20,6 @@ use Rattle.theory.proofs.Demand3.{demand3}
 pub after-next : (ks L : List ℕ) (i : ℕ) → i < length ks → afterCalls (take (suc i) ks) L ≡ callLevels (getD ks i 0) (afterCalls (take i ks) L)
 unfolding afterCalls
 after-next ks L i = left-next callLevels ks L i 0
-
-pub done-snoc : (ks L : List ℕ) (k : ℕ) → stepsDone (ks ++ k ∷ []) L ≡ stepsDone ks L + callPushes k (afterCalls ks L)
-unfolding afterCalls stepsDone
-done-snoc [] L k = omega arith
-done-snoc (j ∷ ks) L k = rw (done-snoc ks (callLevels j L) k) (omega arith)
 
 pub numbers-long : (ks L : List ℕ) → length (callNumbers ks L) ≡ length ks
 unfolding callNumbers

@@ -1,12 +1,12 @@
--- Jobs done one after the other: one job more, what all of them keep, the answer of each, and the loop that does them. Assumes nothing.
-use mathlib.Core.Path.{_≡_, refl, ap, _∙_}
+-- Jobs done one after the other: one job more, what all of them keep, the answer of each, all answers added up, and the loop that does them. Assumes nothing.
+use mathlib.Core.Path.{_≡_, refl, sym, ap, _∙_}
 use mathlib.Core.List.{List, [], _∷_, _++_}
 use Prim.Native.Nat.{ℕ, zero, suc, _+_, _≤_, _<_}
 use native.Mathlib.Numerals.{add-one}
 use native.Mathlib.Omega.{arith}
 use lib.ListN.{length, getD, take, set}
 use lib.Seq.{take-suc, take-all}
-use Rattle.theory.specs.InTurn.{leftBy, answersTo}
+use Rattle.theory.specs.InTurn.{leftBy, answersTo, addedUp}
 use Rattle.theory.proofs.FilledRow.{Filled, filled-none, filled-more}
 
 -- ---- what is left
@@ -43,6 +43,18 @@ module _ {J S : Type 0} (after : J → S → S) where
     answer-at [] s i d z h = absurd (omega arith)
     answer-at (j ∷ js) s zero d z h = refl
     answer-at (j ∷ js) s (suc i) d z h = answer-at js (after j s) i d z (omega arith)
+
+  -- ---- what is added up
+
+  module _ (answer : J → S → ℕ) where
+    added-snoc : (js : List J) (j : J) (s : S) → addedUp answer after (js ++ j ∷ []) s ≡ addedUp answer after js s + answer j (leftBy after js s)
+    added-snoc [] j s = omega arith
+    added-snoc (i ∷ js) j s = rw (added-snoc js j (after i s)) (omega arith)
+
+    -- one job more
+    pub added-next : (js : List J) (s : S) (i : ℕ) (d : J) → i < length js
+        → addedUp answer after (take i js) s + answer (getD js i d) (leftBy after (take i js) s) ≡ addedUp answer after (take (i + 1) js) s
+    added-next js s i d h = rw (add-one i, take-suc js i d h) (sym (added-snoc (take i js) (getD js i d) s))
 
 -- ---- the loop: i jobs were done, `memory` holds what they left, and the row has their answers
 

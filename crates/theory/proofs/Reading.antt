@@ -1,15 +1,15 @@
 -- Pushes on levels: the permutation read from them is pushed, the highest level rises by one, and no tie comes up. Assumes nothing.
 use mathlib.Core.Path.{_≡_, refl, sym, ap, _∙_, subst}
-use mathlib.Core.Bool.{true, false}
+use mathlib.Core.Bool.{false}
 use mathlib.Core.List.{List, [], _∷_, _++_}
 use Prim.Native.Nat.{ℕ, zero, suc, _+_, _-_, _≤_}
 use native.Mathlib.Omega.{arith}
 use lib.ListN.{length, getD, length-set}
 use lib.Seq.{getD-set-same, getD-set-other}
-use Rattle.theory.specs.Lists.{count, member}
+use Rattle.theory.specs.Lists.{count}
 use Rattle.theory.specs.Permutation.{IsPermutation, cellAt, top}
 use Rattle.theory.specs.Push.{push, pushCell, pushCells}
-use Rattle.theory.specs.Levels.{level, highest, lowest, tied, permutationOf, Falls, ReadsAs, pushLevel, pushLevels, jump}
+use Rattle.theory.specs.Levels.{level, highest, lowest, tied, permutationOf, Falls, ReadsAs, pushLevel, pushLevels, Cells, jump}
 use Rattle.theory.specs.Claims.{Reading}
 use Rattle.theory.proofs.Cases.{by-name}
 use Rattle.theory.proofs.Counts.{delta-self, delta-ne, count-append, Split, split, adds-top, adds-between}
@@ -117,10 +117,6 @@ reads-cell {L} {xs} c low high r =
 pub row-length : (cs L : List ℕ) → length (pushLevels cs L) ≡ length L
 row-length [] L = refl
 row-length (c ∷ cs) L = row-length cs (pushLevel c L) ∙ pushed-length c L
-
--- the cells of a row are some of the group's
-abbrev pub Cells : List ℕ → List ℕ → Type 0
-Cells cs L = (c : ℕ) → member c cs ≡ true → (1 ≤ c) × (c ≤ length L)
 
 pub cells-later : (c : ℕ) (cs L : List ℕ) → Cells (c ∷ cs) L → Cells cs (pushLevel c L)
 cells-later c cs L h d m = let k = h d (member-later d c cs m) in (k .0, omega (arith, k .1, pushed-length c L))

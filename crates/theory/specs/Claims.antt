@@ -12,13 +12,13 @@ use Rattle.theory.specs.Push.{push, pushes, Places, pushCells, cellPlace
 use Rattle.theory.specs.Successor.{successor, step}
 use Rattle.theory.specs.Rank.{remaining, rank, digits, digitValue}
 use Rattle.theory.specs.Unrank.{unrank}
-use Rattle.theory.specs.Levels.{level, highest, lowest, tied, permutationOf, ReadsAs, pushLevel, pushLevels, jump}
+use Rattle.theory.specs.Levels.{level, highest, lowest, tied, permutationOf, ReadsAs, pushLevel, pushLevels, Cells, jump}
 use Rattle.theory.specs.CountUp.{countUp, callNumber, callPushes, callLevels}
 use Rattle.theory.specs.Run.{afterCalls}
 use Rattle.theory.specs.Rewrite.{rewriteCount, rewritePushes}
 use Rattle.theory.specs.Prefix.{IsPrefix, prefixes, prefixAt, prefixNumber, prefixLength, symbolPrefix, symbolOf}
 use Rattle.theory.specs.Store.{restLeads, storeCount, storePushes}
-use Rattle.theory.specs.Spent.{levelSum, chargeOf, countUpPushes, callCharge, callsCharge}
+use Rattle.theory.specs.Spent.{Spends, chargeOf, countUpPushes, callCharge, callsCharge}
 
 -- "Why a job is sent back": the number of each word
 pub record Reasons : Type 0 where
@@ -92,10 +92,10 @@ pub record Reading (L : List ℕ) : Type 0 where
   pub push-untied : (c : ℕ) → 1 ≤ c → c ≤ length L → tied (pushLevel c L) ≡ false
   -- and so of a row of pushes of cells
   pub row-read :
-      (cs : List ℕ) → ((c : ℕ) → member c cs ≡ true → (1 ≤ c) × (c ≤ length L))
+      (cs : List ℕ) → Cells cs L
       → permutationOf (pushLevels cs L) ≡ pushCells cs (permutationOf L)
   pub row-highest :
-      (cs : List ℕ) → ((c : ℕ) → member c cs ≡ true → (1 ≤ c) × (c ≤ length L))
+      (cs : List ℕ) → Cells cs L
       → highest (pushLevels cs L) ≡ highest L + length cs
 
 -- rewriting a permutation of n cells to a target permutation
@@ -173,28 +173,26 @@ pub record Calling (k : ℕ) (L : List ℕ) : Type 0 where
   pub counted : callNumber k L ≡ 0 → (callPushes k L ≡ k) × (callLevels k L ≡ countUp k L)
   pub unchanged : (callNumber k L ≡ 0 → ⊥) → (callPushes k L ≡ 0) × (callLevels k L ≡ L)
 
--- document 02, request 3: the charge that pushes on levels L spend
+-- document 02, request 3: the charge that pushes on levels L spend is the sum of all levels afterwards less the sum before
 pub record Spending (L : List ℕ) : Type 0 where
-  -- "The total equals the sum of all levels afterwards less the sum before": of one push and of a row of pushes of cells
-  pub push : (c : ℕ) → 1 ≤ c → c ≤ length L → levelSum (pushLevel c L) ≡ levelSum L + jump c L
-  pub row :
-      (cs : List ℕ) → ((c : ℕ) → member c cs ≡ true → (1 ≤ c) × (c ≤ length L))
-      → levelSum (pushLevels cs L) ≡ levelSum L + chargeOf cs L
+  -- of one push, and of a row of pushes of cells
+  pub push : (c : ℕ) → 1 ≤ c → c ≤ length L → Spends L (pushLevel c L) (jump c L)
+  pub row : (cs : List ℕ) → Cells cs L → Spends L (pushLevels cs L) (chargeOf cs L)
   -- of a rewrite and of a store
   pub rewrite :
       (target : List ℕ) → 1 ≤ length L → IsPermutation (length L) target
-      → levelSum (pushLevels (rewritePushes (permutationOf L) target) L) ≡ levelSum L + chargeOf (rewritePushes (permutationOf L) target) L
+      → Spends L (pushLevels (rewritePushes (permutationOf L) target) L) (chargeOf (rewritePushes (permutationOf L) target) L)
   pub store :
       (p : ℕ) (q : List ℕ) → IsPrefix (length L) p q
-      → levelSum (pushLevels (storePushes q (permutationOf L)) L) ≡ levelSum L + chargeOf (storePushes q (permutationOf L)) L
-  -- count up by k is a row of k pushes, those that its charge is of
-  pub counted : (k : ℕ) → (countUp k L ≡ pushLevels (countUpPushes k L) L) × (length (countUpPushes k L) ≡ k)
+      → Spends L (pushLevels (storePushes q (permutationOf L)) L) (chargeOf (storePushes q (permutationOf L)) L)
+  -- of count up by k, which is a row of k pushes
+  pub count : (k : ℕ) → 2 ≤ length L → Spends L (countUp k L) (chargeOf (countUpPushes k L) L)
+  pub count-row : (k : ℕ) → countUp k L ≡ pushLevels (countUpPushes k L) L
+  pub count-long : (k : ℕ) → length (countUpPushes k L) ≡ k
   -- of a count-up call, which spends nothing when it is refused, and of a list of them
-  pub call : (k : ℕ) → levelSum (callLevels k L) ≡ levelSum L + callCharge k L
+  pub call : (k : ℕ) → Spends L (callLevels k L) (callCharge k L)
   pub refused : (k : ℕ) → (callNumber k L ≡ 0 → ⊥) → callCharge k L ≡ 0
-  pub calls : (ks : List ℕ) → levelSum (afterCalls ks L) ≡ levelSum L + callsCharge ks L
+  pub calls : (ks : List ℕ) → Spends L (afterCalls ks L) (callsCharge ks L)
   -- "in 32 bits": a row of pushes that is not refused, of up to twenty levels, and any list of calls on any levels
-  pub row-fits :
-      (cs : List ℕ) → ((c : ℕ) → member c cs ≡ true → (1 ≤ c) × (c ≤ length L))
-      → length L ≤ 20 → highest L + length cs ≤ 65535 → chargeOf cs L < 2 ^ 32
+  pub row-fits : (cs : List ℕ) → Cells cs L → length L ≤ 20 → highest L + length cs ≤ 65535 → chargeOf cs L < 2 ^ 32
   pub calls-fit : (ks : List ℕ) → callsCharge ks L < 2 ^ 32

@@ -1,11 +1,11 @@
 -- Document 01, "Runs of steps": k steps, push counts, the levels that steps leave, and lists of count-up calls. Assumes nothing.
-use mathlib.Core.List.{List, [], _∷_}
+use mathlib.Core.List.{List}
 use Prim.Native.Nat.{ℕ, zero, suc, _+_}
 use Rattle.theory.specs.Lists.{delta}
 use Rattle.theory.specs.Permutation.{top}
 use Rattle.theory.specs.Successor.{step}
 use Rattle.theory.specs.Levels.{pushLevel}
-use Rattle.theory.specs.InTurn.{leftBy, answersTo}
+use Rattle.theory.specs.InTurn.{leftBy, answersTo, addedUp}
 use Rattle.theory.specs.CountUp.{callNumber, callPushes, callLevels}
 
 -- the permutation after k steps: "The following step gets the record which that push returned."
@@ -33,5 +33,4 @@ callNumbers ks L = answersTo callNumber callLevels ks L
 
 -- "Let K be the sum of k over the calls done."
 unfoldable pub stepsDone : List ℕ → List ℕ → ℕ
-stepsDone [] L = 0
-stepsDone (k ∷ ks) L = callPushes k L + stepsDone ks (callLevels k L)
+stepsDone ks L = addedUp callPushes callLevels ks L

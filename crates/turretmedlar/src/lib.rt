@@ -4,6 +4,7 @@ ghost use mathlib.Core.Path.{_≡_};
 ghost use Prim.Native.Nat.{_≤_};
 ghost use lib.ListN.{length};
 ghost use Rattle.theory.specs.CountUp.{callLevels};
+ghost use Rattle.theory.specs.Spent.{Spends};
 ghost use Rattle.permutation.specs.Answers.{pushAnswer, successorAnswer};
 ghost use Rattle.ranking.specs.Answers.{digitsAnswer, rankAnswer, unrankAnswer};
 ghost use Rattle.charge.specs.Answers.{readAnswer, placeAnswer, placeLevels, callAnswer};
@@ -84,6 +85,7 @@ pub extern "C" fn tm_read(levels: &[u16]) -> Permuted
 pub extern "C" fn tm_push_level(levels: &mut [u16], place: usize) -> Pushes
     ensures answer { λ r. ⌜ r ≡ placeAnswer (now (levels .entry)) place ⌝ }
     ensures levels_left { λ _. ⌜ now (levels .exit) ≡ placeLevels (now (levels .entry)) place ⌝ }
+    ensures spent { λ r. ⌜ Spends (now (levels .entry)) (now (levels .exit)) (r .charge) ⌝ }
 {
     push_level(levels, place)
 }
@@ -92,6 +94,7 @@ pub extern "C" fn tm_push_level(levels: &mut [u16], place: usize) -> Pushes
 pub extern "C" fn tm_count_up(levels: &mut [u16], k: u32) -> Pushes
     ensures answer { λ r. ⌜ r ≡ callAnswer (now (levels .entry)) k ⌝ }
     ensures levels_left { λ _. ⌜ now (levels .exit) ≡ callLevels k (now (levels .entry)) ⌝ }
+    ensures spent { λ r. ⌜ Spends (now (levels .entry)) (now (levels .exit)) (r .charge) ⌝ }
 {
     count_up(levels, k)
 }
@@ -102,6 +105,7 @@ pub extern "C" fn tm_rewrite(levels: &mut [u16], target: Permutation, list: &mut
     ensures levels_left { λ _. ⌜ now (levels .exit) ≡ rewriteLevels (now (levels .entry)) target (length (now (list .entry))) ⌝ }
     ensures list_left { λ _. ⌜ now (list .exit) ≡ rewriteList (now (levels .entry)) target (now (list .entry)) ⌝ }
     ensures reached { λ r. ⌜ (r .number ≡ 0 → RewriteOf (now (levels .entry)) target (now (levels .exit)) (r .pushes)) ⌝ }
+    ensures spent { λ r. ⌜ Spends (now (levels .entry)) (now (levels .exit)) (r .charge) ⌝ }
 {
     rewrite(levels, target, list)
 }
@@ -111,6 +115,7 @@ pub extern "C" fn tm_store(levels: &mut [u16], m: u64, symbol: u64) -> Pushes
     ensures answer { λ r. ⌜ r ≡ storeAnswer (now (levels .entry)) m symbol ⌝ }
     ensures levels_left { λ _. ⌜ now (levels .exit) ≡ storeLevels (now (levels .entry)) m symbol ⌝ }
     ensures stored { λ r. ⌜ (r .number ≡ 0 → StoreOf (now (levels .entry)) m symbol (now (levels .exit)) (r .pushes)) ⌝ }
+    ensures spent { λ r. ⌜ Spends (now (levels .entry)) (now (levels .exit)) (r .charge) ⌝ }
 {
     store(levels, m, symbol)
 }

@@ -8,7 +8,7 @@ use Rattle.charge.specs.Answers.{donePushes, callAnswer}
 use Rattle.charge.specs.Counting.{callJudged}
 use Rattle.charge.specs.declared.judge.Call.{Call}
 use Rattle.charge.proofs.Sorting.{sorted-row}
-use Rattle.charge.proofs.Numbers.{Granted, judged-granted, pushes-refused, pushes-done}
+use Rattle.charge.proofs.Numbers.{Granted, judged-granted, pushes-refused, pushes-done, with-spent, call-spends}
 use Rattle.charge.proofs.count_up.count_up.Statement.{statement}
 use Rattle.charge.proofs.count_up.count_up.Tie as tie
 
@@ -27,8 +27,9 @@ returns : tie.Need-returns
 unfolding callJudged callAnswer callLevels
 returns c =
     let at = c .before .before in let a = at .before .before .before .args in
-    pushes-refused (a .k) (chargeOf (countUpPushes (a .k) (a .levels .now)) (a .levels .now)) (a .levels .now) (countUp (a .k) (a .levels .now)) (c .no-pushes .ensures)
-    (ap (λ (a : Call). a .number) (at .judge-call .ensures)) (c .before .if1 .taken)
+    with-spent (a .levels .now) (call-spends (a .k) (a .levels .now))
+    (pushes-refused (a .k) (chargeOf (countUpPushes (a .k) (a .levels .now)) (a .levels .now)) (a .levels .now) (countUp (a .k) (a .levels .now)) (c .no-pushes .ensures)
+    (ap (λ (a : Call). a .number) (at .judge-call .ensures)) (c .before .if1 .taken))
 
 sort-cells-requires : tie.Need-sort-cells-requires
 sort-cells-requires c κs = (call (c .before .before) .faultless .many, refl)
@@ -57,8 +58,9 @@ returns-2 c =
     let at = c .before .before .before in
     let a = past (at .before) .before .before .before .before .args in
     let counted = at .count-steps .ensures in
-    pushes-done (a .k) _ _ (countUp (a .k) (a .levels .now)) (c .done-pushes .ensures ∙ ap (donePushes (a .k)) (counted .spent))
-    (call (past (at .before)) .number) (counted .levels)
+    with-spent (a .levels .now) (call-spends (a .k) (a .levels .now))
+    (pushes-done (a .k) _ _ (countUp (a .k) (a .levels .now)) (c .done-pushes .ensures ∙ ap (donePushes (a .k)) (counted .spent))
+    (call (past (at .before)) .number) (counted .levels))
 
 pub count-up-spec : {M : Type 1} → statement M
 count-up-spec =

@@ -7,11 +7,12 @@ use borrow.Author.Needs.{needs}
 use lib.ListN.{length, getD}
 use Rattle.theory.specs.Permutation.{cellAt}
 use Rattle.theory.specs.Levels.{permutationOf, pushLevel, jump}
+use Rattle.theory.specs.Spent.{Spends}
 use Rattle.theory.proofs.Refusal.{Readable, readable}
 use Rattle.charge.specs.Answers.{noPushes, donePushes, placeNumber, placeAnswer, placeLevels}
 use Rattle.charge.specs.declared.answers.Pushes.{Pushes}
 use Rattle.charge.proofs.Sorting.{sorted-row}
-use Rattle.charge.proofs.Numbers.{pushes-refused, pushes-done, place-fault, place-low, place-high, place-ceiling, place-done}
+use Rattle.charge.proofs.Numbers.{pushes-refused, pushes-done, with-spent, place-spends, place-fault, place-low, place-high, place-ceiling, place-done}
 use Rattle.charge.proofs.Pushing.{PlacedCell, placed-cell, placed-push, placed-jump}
 use Rattle.charge.proofs.push_level.push_level.Statement.{statement}
 use Rattle.charge.proofs.push_level.push_level.Tie as tie
@@ -39,9 +40,10 @@ cell c =
 
 -- a refusal
 refuses : (L : List ℕ) (i : ℕ) {a : Pushes} {number : ℕ} → a ≡ noPushes number → number ≡ placeNumber L i → (number ≡ 0 → ⊥)
-    → (a ≡ placeAnswer L i) × (L ≡ placeLevels L i)
+    → (a ≡ placeAnswer L i) × ((L ≡ placeLevels L i) × Spends L L (a .charge))
 unfolding placeAnswer placeLevels
-refuses L i = pushes-refused 1 (jump (cellAt i (permutationOf L)) L) L (pushLevel (cellAt i (permutationOf L)) L)
+refuses L i e is ne =
+    with-spent L (place-spends L i) (pushes-refused 1 (jump (cellAt i (permutationOf L)) L) L (pushLevel (cellAt i (permutationOf L)) L) e is ne)
 
 same-length : tie.Need-same-length
 same-length c = search needs
@@ -128,9 +130,10 @@ returns-5 c =
     let at = chosen .before .before in let top = at .before .before .before .highest in
     let a = entry (past at .before .before) .args in
     let b = placed (past at) in
-    pushes-done 1 _ (a .levels .now) (pushLevel (cellAt (a .place) (permutationOf (a .levels .now))) (a .levels .now))
+    with-spent (a .levels .now) (place-spends (a .levels .now) (a .place))
+    (pushes-done 1 _ (a .levels .now) (pushLevel (cellAt (a .place) (permutationOf (a .levels .now))) (a .levels .now))
     (c .done-pushes .ensures ∙ ap (donePushes 1) (jumps chosen .1))
-    (place-done _ _ (b .0) (b .1) (b .2) (omega (arith, top .ok, top .ensures))) (placed-push (cell chosen) (top .ensures))
+    (place-done _ _ (b .0) (b .1) (b .2) (omega (arith, top .ok, top .ensures))) (placed-push (cell chosen) (top .ensures)))
 
 pub push-level-spec : {M : Type 1} → statement M
 push-level-spec =

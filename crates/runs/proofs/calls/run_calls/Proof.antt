@@ -1,4 +1,4 @@
--- `runs::calls::run_calls` meets its contract. The loop's invariant: levels, numbers and pushes are those of the calls made. Assumes nothing.
+-- `runs::calls::run_calls` meets its contract. The loop's invariant: levels, numbers, pushes and charge are those of the calls made. Assumes nothing.
 use mathlib.Core.Path.{ap}
 use Prim.Native.Nat.{_+_, _-_, _≤_}
 use native.Mathlib.Omega.{arith}
@@ -45,7 +45,7 @@ made : (c : tie.After-struct-known Inv-loop μ-loop)
 made c =
     let turn = c .before .before .before in
     let at = turn .before .before .before .before in
-    made-more (at .loop .inv) (turn .before .before .before .loop-test .taken) _ _ (turn .count-up .ensures .0) (turn .count-up .ensures .1)
+    made-more (at .loop .inv) (turn .before .before .before .loop-test .taken) _ _ (turn .count-up .ensures .0) (turn .count-up .ensures .1 .0)
 
 add-pushes : tie.Need-add-pushes Inv-loop μ-loop
 add-pushes c = omega (arith, made c .0)

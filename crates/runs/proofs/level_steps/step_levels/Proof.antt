@@ -17,7 +17,7 @@ abbrev entry : tie.After-successor → tie.Start
 entry c = c .before .before .before .before .before
 
 abbrev chosen : tie.After-push-level → tie.After-wide
-chosen c = c .before .before .before
+chosen c = c .before .before
 
 abbrev pushing : tie.After-lowest → tie.After-push-level
 pushing c = c .before .before .before .before .before .before .before
@@ -39,10 +39,11 @@ inside c = let asked = c .before .before in cell-inside _ (entry asked .pre) _ _
 
 -- its push
 pushed : (c : tie.After-push-level)
-    → StepDone (entry (chosen c .before .before) .args .levels .now) (chosen c .wide .result) (c .push-level .last .0)
+    → StepDone (entry (chosen c .before .before) .args .levels .now) (chosen c .wide .result) (c .push-level .result .charge) (c .push-level .last .0)
 pushed c =
     let asked = chosen c .before .before in
-    step-done _ (entry asked .pre) _ _ (read-is asked) (place-is asked) _ (chosen c .wide .ensures) _ (c .push-level .ensures .1)
+    let e = c .push-level .ensures in
+    step-done _ (entry asked .pre) _ _ (read-is asked) (place-is asked) _ (chosen c .wide .ensures) _ _ (e .0) (e .1 .0)
 
 read-requires : tie.Need-read-requires
 read-requires c κs = search needs
@@ -53,32 +54,11 @@ sub-wide c = omega (arith, bounds (c .before) .0)
 array-read-wide : tie.Need-array-read-wide
 array-read-wide c = let b = bounds (c .before) in omega (arith, b .0, b .2)
 
-sub-before : tie.Need-sub-before
-sub-before c = inside c .0
+cast-raise : tie.Need-cast-raise
+cast-raise c = omega (arith, pushed (c .before .before .before) .raise-fits)
 
-mul-before : tie.Need-mul-before
-mul-before c = omega (arith, inside c .1)
-
-slice-read-before : tie.Need-slice-read-before
-slice-read-before c = let b = inside (c .before) in omega arith
-
-sub-after : tie.Need-sub-after
-sub-after c = inside (chosen (c .before .before)) .0
-
-mul-after : tie.Need-mul-after
-mul-after c = omega (arith, inside (chosen (c .before .before)) .1)
-
-slice-read-after : tie.Need-slice-read-after
-slice-read-after c =
-    let at = c .before .before .before in
-    let b = inside (chosen at) in
-    omega (arith, pushed at .long, b .0, b .1)
-
-sub-t18 : tie.Need-sub-t18
-sub-t18 c = pushed (c .before .before .before) .raises
-
-sub-t29 : tie.Need-sub-t29
-sub-t29 c = omega (arith, pushed (pushing c) .bottom≤top, c .lowest .ensures, c .before .before .highest .ensures)
+sub-spread : tie.Need-sub-spread
+sub-spread c = omega (arith, pushed (pushing c) .bottom≤top, c .lowest .ensures, c .before .before .highest .ensures)
 
 same-length : tie.Need-same-length
 same-length c = pushed (pushing c) .long
@@ -97,16 +77,10 @@ step-levels-spec =
     sub-wide
     array-read-wide
     (λ c κs. tt)
-    sub-before
-    mul-before
-    slice-read-before
     (λ c κs. tt)
-    sub-after
-    mul-after
-    slice-read-after
-    sub-t18
+    cast-raise
     (λ c κs. tt)
     (λ c κs. tt)
-    sub-t29
+    sub-spread
     same-length
     returns)

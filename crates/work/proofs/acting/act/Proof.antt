@@ -19,7 +19,9 @@ same-length : tie.Need-same-length
 same-length c = search needs
 
 returns : tie.Need-returns
-returns c = let done = c .before .before in rw (done .before .before .before .action .given .1) (done .count-up .ensures)
+returns c =
+    let done = c .before .before in
+    rw (done .before .before .before .action .given .1) (done .count-up .ensures .0, done .count-up .ensures .1 .0)
 
 same-length-2 : tie.Need-same-length-2
 same-length-2 c = search needs
