@@ -11,7 +11,7 @@ pub fn addend(level: u16) -> u32
     level as u32
 }
 
-// For other crates too: it asks for at most twenty, so that the sum fits.
+// It asks for at most twenty, so that the sum fits.
 pub fn level_sum(levels: &[u16]) -> u32
     requires { ⌜ length (now levels) ≤ 20 ⌝ }
     ensures { λ r. ⌜ r ≡ levelSum (now (levels .entry)) ⌝ }

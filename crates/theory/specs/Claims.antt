@@ -91,12 +91,8 @@ pub record Reading (L : List ℕ) : Type 0 where
   pub push-highest : (c : ℕ) → 1 ≤ c → c ≤ length L → highest (pushLevel c L) ≡ highest L + 1
   pub push-untied : (c : ℕ) → 1 ≤ c → c ≤ length L → tied (pushLevel c L) ≡ false
   -- and so of a row of pushes of cells
-  pub row-read :
-      (cs : List ℕ) → Cells cs L
-      → permutationOf (pushLevels cs L) ≡ pushCells cs (permutationOf L)
-  pub row-highest :
-      (cs : List ℕ) → Cells cs L
-      → highest (pushLevels cs L) ≡ highest L + length cs
+  pub row-read : (cs : List ℕ) → Cells cs L → permutationOf (pushLevels cs L) ≡ pushCells cs (permutationOf L)
+  pub row-highest : (cs : List ℕ) → Cells cs L → highest (pushLevels cs L) ≡ highest L + length cs
 
 -- rewriting a permutation of n cells to a target permutation
 pub record Rewriting (n : ℕ) (xs target : List ℕ) : Type 0 where
