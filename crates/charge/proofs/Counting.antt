@@ -1,4 +1,4 @@
--- Count up by steps: what is left of the count, on the present levels, is the whole count on the first. Assumes nothing.
+-- Count up by steps: one step and its jump; what is left of the count, on the present levels, is the whole count on the first; what it spends. Assumes nothing.
 use mathlib.Core.Path.{_≡_, refl, sym, ap, _∙_}
 use mathlib.Core.List.{List}
 use Prim.Native.Nat.{ℕ, suc, _+_, _-_, _≤_, _<_}
@@ -125,7 +125,7 @@ module _ {first : List ℕ} {k last : ℕ} {L cells : List ℕ} {top : ℕ} (v :
     grown = ap levelSum left-now ∙ counted-sum k first (omega (arith, v .ready .few, v .size))
 
     pub end : (charge : ℕ) → levelSum L ≡ levelSum first + charge → Counted k first L charge
-    end charge e = record { levels = left-now; spent = omega (arith, e, grown) }
+    end charge e = record { levels = left-now; charge-is = omega (arith, e, grown) }
 
     -- the charge as a difference
     pub end-sums : {before after : ℕ} → before ≡ levelSum first → after ≡ levelSum L → (before ≤ after) × Counted k first L (after - before)

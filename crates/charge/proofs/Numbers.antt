@@ -1,4 +1,4 @@
--- What a job on levels answers, by its number, and what a count-up call is judged by. Assumes nothing.
+-- What a job on levels answers, by its number, and spends, and what a count-up call is judged by. Assumes nothing.
 use mathlib.Core.Path.{_≡_, sym, ap, ap₂, _∙_}
 use mathlib.Core.Bool.{_&&_, and-eq-true-iff}
 use mathlib.Core.List.{List, []}

@@ -3,7 +3,9 @@ use mathlib.Core.Path.{_≡_, sym, ap, _∙_}
 use mathlib.Core.List.{List}
 use Prim.Native.Nat.{ℕ}
 use native.Mathlib.Omega.{arith}
-use Rattle.theory.specs.Levels.{permutationOf, pushLevels, Cells, readNumber}
+use lib.ListN.{length}
+use Rattle.theory.specs.Lists.{Cells}
+use Rattle.theory.specs.Levels.{permutationOf, pushLevels, readNumber}
 use Rattle.theory.proofs.Sorting.{reads-untied}
 use Rattle.theory.proofs.Reading as theory
 use Rattle.theory.proofs.Reading.{reads-row, row-length}
@@ -27,7 +29,7 @@ standing L e z =
     let done = sym (number-is L e) ∙ z in
     record { levels = readable done; is = ap (λ (a : Permuted). a .permutation) e ∙ rw done }
 
-pub row-readable : {L : List ℕ} (cs : List ℕ) → Cells cs L → Readable L → Readable (pushLevels cs L)
+pub row-readable : {L : List ℕ} (cs : List ℕ) → Cells (length L) cs → Readable L → Readable (pushLevels cs L)
 row-readable {L} cs k r = record {
   few = omega (arith, row-length cs L, r .few);
   many = omega (arith, row-length cs L, r .many);

@@ -28,4 +28,4 @@ pub record Ready (L cells : List ℕ) (top k : ℕ) : Type 0 where
 -- k steps led from L to L′, and spent this charge
 pub record Counted (k : ℕ) (L L′ : List ℕ) (charge : ℕ) : Type 0 where
   pub levels : L′ ≡ countUp k L
-  pub spent : charge ≡ chargeOf (countUpPushes k L) L
+  pub charge-is : charge ≡ chargeOf (countUpPushes k L) L

@@ -16,7 +16,7 @@ use permutation::cell::wide;
 use permutation::push::push_row;
 use permutation::successor::next_place;
 
-// `cells` is the row of the levels' permutation, and `top` the highest of them, here and below. Gives the jump.
+// `cells` is the row of the levels' permutation, and `top` the highest level, here and below. Gives the jump, which costs nothing where nobody takes it.
 fn count_step(levels: &mut [u16], cells: &mut [u8; 20], top: u16) -> u16
     requires { ⌜ Ready (now levels) (now cells) top 1 ⌝ }
     ensures jumped { λ r. ⌜ r ≡ jump (meaning.nextCell (now (levels .entry))) (now (levels .entry)) ⌝ }

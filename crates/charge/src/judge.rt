@@ -52,6 +52,13 @@ pub fn read_number(levels: &[u16]) -> u8
     0
 }
 
+// A level, to be added: `addend(levels[i])` asks its caller for the index alone, and gives the bound that the sum needs. For other crates too.
+pub fn addend(level: u16) -> u32
+    ensures { λ r. ⌜ (r ≡ level) × (r ≤ 65535) ⌝ }
+{
+    level as u32
+}
+
 // For other crates too.
 pub fn highest(levels: &[u16]) -> u16
     ensures { λ r. ⌜ r ≡ meaning.highest (now (levels .entry)) ⌝ }

@@ -3,13 +3,7 @@ ghost use mathlib.Core.Path.{_≡_};
 ghost use Prim.Native.Nat.{_≤_};
 ghost use lib.ListN.{length};
 ghost use Rattle.theory.specs.Spent.{levelSum};
-
-// A level, to be added: `addend(levels[i])` asks its caller for the index alone, and gives the bound that the sum needs. For other crates too.
-pub fn addend(level: u16) -> u32
-    ensures { λ r. ⌜ (r ≡ level) × (r ≤ 65535) ⌝ }
-{
-    level as u32
-}
+use super::judge::addend;
 
 // It asks for at most twenty, so that the sum fits.
 pub fn level_sum(levels: &[u16]) -> u32

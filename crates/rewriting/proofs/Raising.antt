@@ -1,5 +1,5 @@
--- The first cells of a row pushed, the last of them first: what is left to push, on the present levels, gives what the whole gives on the first.
--- Assumes nothing.
+-- The first cells of a row pushed, the last of them first: what is left to push, on the present levels, gives what the whole gives on the first; what the cells
+-- get, in closed form, less what they had is the charge. Assumes nothing.
 use mathlib.Core.Path.{_≡_, refl, ap, _∙_}
 use mathlib.Core.List.{List, [], _∷_, reverse}
 use Prim.Native.Nat.{ℕ, zero, suc, _+_, _-_, _*_, _/_, _≤_, _<_}

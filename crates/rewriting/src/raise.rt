@@ -11,8 +11,8 @@ ghost use Rattle.rewriting.specs.Raising.{Pushable, Raisable, sumAbove, 
 use charge::answers::Pushes;
 use charge::answers::done_pushes;
 use charge::answers::no_pushes;
+use charge::judge::addend;
 use charge::judge::highest;
-use charge::sum::addend;
 use permutation::cell::wide;
 use permutation::reasons::CEILING;
 
@@ -28,7 +28,7 @@ fn sum_above(top: u16, r: usize) -> u32
 // `top` is the highest level. Gives the charge: the levels that the cells get, less those that they had.
 fn push_first(levels: &mut [u16], cells: &[u8; 20], r: usize, top: u16) -> u32
     requires { ⌜ Raisable (now levels) (now cells) r top ⌝ }
-    ensures spent { λ c. ⌜ c ≡ chargeOf (reverse (take r (now (cells .entry)))) (now (levels .entry)) ⌝ }
+    ensures charge_is { λ c. ⌜ c ≡ chargeOf (reverse (take r (now (cells .entry)))) (now (levels .entry)) ⌝ }
     ensures levels_left { λ _. ⌜ now (levels .exit) ≡ meaning.pushLevels (reverse (take r (now (cells .entry)))) (now (levels .entry)) ⌝ }
 {
     let last = (top as usize) + r;

@@ -1,4 +1,4 @@
--- A run of steps on levels: what one step does, what holds when some of them were done, and demand 3 of the whole. Assumes nothing.
+-- A run of steps on levels: what holds when some of them were done, their charge too, and demand 3 of the whole. Assumes nothing.
 use mathlib.Core.Path.{_≡_, refl, sym, ap, ap₂, _∙_}
 use mathlib.Core.List.{List}
 use Prim.Native.Nat.{ℕ, zero, suc, _+_, _-_, _≤_, _<_, max}

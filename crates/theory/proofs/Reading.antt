@@ -6,10 +6,10 @@ use Prim.Native.Nat.{ℕ, zero, suc, _+_, _-_, _≤_}
 use native.Mathlib.Omega.{arith}
 use lib.ListN.{length, getD, length-set}
 use lib.Seq.{getD-set-same, getD-set-other}
-use Rattle.theory.specs.Lists.{count}
+use Rattle.theory.specs.Lists.{count, Cells}
 use Rattle.theory.specs.Permutation.{IsPermutation, cellAt, top}
 use Rattle.theory.specs.Push.{push, pushCell, pushCells}
-use Rattle.theory.specs.Levels.{level, highest, lowest, tied, permutationOf, Falls, ReadsAs, pushLevel, pushLevels, Cells, jump}
+use Rattle.theory.specs.Levels.{level, highest, lowest, tied, permutationOf, Falls, ReadsAs, pushLevel, pushLevels, jump}
 use Rattle.theory.specs.Claims.{Reading}
 use Rattle.theory.proofs.Cases.{by-name}
 use Rattle.theory.proofs.Counts.{delta-self, delta-ne, count-append, Split, split, adds-top, adds-between}
@@ -118,16 +118,16 @@ pub row-length : (cs L : List ℕ) → length (pushLevels cs L) ≡ length L
 row-length [] L = refl
 row-length (c ∷ cs) L = row-length cs (pushLevel c L) ∙ pushed-length c L
 
-pub cells-later : (c : ℕ) (cs L : List ℕ) → Cells (c ∷ cs) L → Cells cs (pushLevel c L)
+pub cells-later : (c : ℕ) (cs L : List ℕ) → Cells (length L) (c ∷ cs) → Cells (length (pushLevel c L)) cs
 cells-later c cs L h d m = let k = h d (member-later d c cs m) in (k .0, omega (arith, k .1, pushed-length c L))
 
-pub row-highest : (cs L : List ℕ) → Cells cs L → highest (pushLevels cs L) ≡ highest L + length cs
+pub row-highest : (cs L : List ℕ) → Cells (length L) cs → highest (pushLevels cs L) ≡ highest L + length cs
 row-highest [] L h = omega arith
 row-highest (c ∷ cs) L h =
     let b = h c (member-first c cs) in
     omega (arith, row-highest cs (pushLevel c L) (cells-later c cs L h), pushed-highest L c (b .0) (b .1))
 
-pub reads-row : (cs : List ℕ) {L xs : List ℕ} → Cells cs L → ReadsAs L xs → ReadsAs (pushLevels cs L) (pushCells cs xs)
+pub reads-row : (cs : List ℕ) {L xs : List ℕ} → Cells (length L) cs → ReadsAs L xs → ReadsAs (pushLevels cs L) (pushCells cs xs)
 reads-row [] h r = r
 reads-row (c ∷ cs) {L} {xs} h r =
     let b = h c (member-first c cs) in

@@ -6,9 +6,10 @@ use Prim.Native.Nat.{ℕ, zero, suc, _+_, _-_, _*_, _≤_, _<_}
 use native.Mathlib.Omega.{arith}
 use lib.ListN.{length, getD, set}
 use Rattle.theory.specs.Refusal.{given}
+use Rattle.theory.specs.Lists.{Cells}
 use Rattle.theory.specs.Permutation.{IsPermutation}
 use Rattle.theory.specs.Successor.{successor}
-use Rattle.theory.specs.Levels.{highest, readNumber, permutationOf, pushLevel, pushLevels, Cells, jump}
+use Rattle.theory.specs.Levels.{highest, readNumber, permutationOf, pushLevel, pushLevels, jump}
 use Rattle.theory.specs.CountUp.{nextCell, countUp, ceilingOf, callNumber, callLevels}
 use Rattle.theory.specs.Run.{afterCalls}
 use Rattle.theory.specs.Rewrite.{rewritePushes}
@@ -17,7 +18,7 @@ use Rattle.theory.specs.Spent.{levelSum, Spends, chargeOf, countUpPushes
 use Rattle.theory.specs.Claims.{Spending}
 use Rattle.theory.proofs.Cases.{by-name}
 use Rattle.theory.proofs.Refusal.{given-refused, orElse-done, readable, ceiling-room}
-use Rattle.theory.proofs.Members.{member-first, entry-inside}
+use Rattle.theory.proofs.Members.{member-first, member-later, entry-inside}
 use Rattle.theory.proofs.Splits.{successor-bounds}
 use Rattle.theory.proofs.Sorting.{permutationOf-permutation}
 use Rattle.theory.proofs.Reading.{pushed-length, pushed-jump, row-length, cells-later, row-highest}
@@ -36,7 +37,7 @@ pub push-sum : (L : List ℕ) (c : ℕ) → 1 ≤ c → c ≤ length L → Spend
 unfolding pushLevel
 push-sum L c low high = omega (arith, set-sum L (c - 1) (highest L + 1) (omega arith), pushed-jump L c low high)
 
-pub row-sum : (cs L : List ℕ) → Cells cs L → Spends L (pushLevels cs L) (chargeOf cs L)
+pub row-sum : (cs L : List ℕ) → Cells (length L) cs → Spends L (pushLevels cs L) (chargeOf cs L)
 row-sum [] L h = omega arith
 row-sum (c ∷ cs) L h =
     let b = h c (member-first c cs) in
@@ -58,7 +59,7 @@ sum-bound (a ∷ L) t h = omega (arith, sum-bound L t (omega arith))
 pub sum-fits : (L : List ℕ) → length L ≤ 20 → highest L ≤ 65535 → levelSum L ≤ 1310700
 sum-fits L many h = omega (arith, sum-bound L 65535 h)
 
-row-fits : (cs L : List ℕ) → Cells cs L → length L ≤ 20 → highest L + length cs ≤ 65535 → levelSum (pushLevels cs L) ≤ 1310700
+row-fits : (cs L : List ℕ) → Cells (length L) cs → length L ≤ 20 → highest L + length cs ≤ 65535 → levelSum (pushLevels cs L) ≤ 1310700
 row-fits cs L cells many h =
     sum-fits (pushLevels cs L) (omega (arith, row-length cs L)) (omega (arith, row-highest cs L cells))
 
@@ -85,7 +86,7 @@ unfolding countUpPushes
 count-long zero L = refl
 count-long (suc k) L = omega (arith, count-long k (pushLevel (nextCell L) L))
 
-count-cells : (k : ℕ) (L : List ℕ) → 2 ≤ length L → Cells (countUpPushes k L) L
+count-cells : (k : ℕ) (L : List ℕ) → 2 ≤ length L → Cells (length L) (countUpPushes k L)
 unfolding countUpPushes
 count-cells zero L big c m = absurd (false≢true m)
 count-cells (suc k) L big c m =
@@ -142,6 +143,10 @@ calls-fit ks L = omega (arith, calls-room ks L)
 pub spending : (L : List ℕ) → Spending L
 unfolding callCharge
 spending L = record {
+  lower = λ c d cells below.
+      let b = cells c (member-first c (d ∷ [])) in
+      let e = cells d (member-later d c (d ∷ []) (member-first d [])) in
+      omega (arith, below, pushed-jump L c (b .0) (b .1), pushed-jump L d (e .0) (e .1));
   push = push-sum L;
   row = λ cs. row-sum cs L;
   rewrite = λ target some o. row-sum (rewritePushes (permutationOf L) target) L

@@ -1,18 +1,18 @@
 -- What is claimed of the meanings, topic by topic. `specs/Theory` says under which conditions each claim is proved. Assumes nothing.
 use mathlib.Core.Path.{_≡_}
 use mathlib.Core.Bool.{true, false}
-use mathlib.Core.List.{List, _++_, reverse, Lexᴰ}
+use mathlib.Core.List.{List, [], _∷_, _++_, reverse, Lexᴰ}
 use Prim.Native.Nat.{ℕ, _+_, _-_, _/_, _%_, _^_, _≤_, _<_}
 use lib.ListN.{length, getD, take, drop}
 use Rattle.theory.specs.Reasons as reason
-use Rattle.theory.specs.Lists.{member, without, names}
+use Rattle.theory.specs.Lists.{without, names, Cells}
 use Rattle.theory.specs.Factorial.{factorial, falling}
 use Rattle.theory.specs.Permutation.{IsPermutation, row, cellAt, top}
 use Rattle.theory.specs.Push.{push, pushes, Places, pushCells, cellPlaces}
 use Rattle.theory.specs.Successor.{successor, step}
 use Rattle.theory.specs.Rank.{remaining, rank, digits, digitValue}
 use Rattle.theory.specs.Unrank.{unrank}
-use Rattle.theory.specs.Levels.{level, highest, lowest, tied, permutationOf, ReadsAs, pushLevel, pushLevels, Cells, jump}
+use Rattle.theory.specs.Levels.{level, highest, lowest, tied, permutationOf, ReadsAs, pushLevel, pushLevels, jump}
 use Rattle.theory.specs.CountUp.{countUp, callNumber, callPushes, callLevels}
 use Rattle.theory.specs.Run.{afterCalls}
 use Rattle.theory.specs.Rewrite.{rewriteCount, rewritePushes}
@@ -91,15 +91,15 @@ pub record Reading (L : List ℕ) : Type 0 where
   pub push-highest : (c : ℕ) → 1 ≤ c → c ≤ length L → highest (pushLevel c L) ≡ highest L + 1
   pub push-untied : (c : ℕ) → 1 ≤ c → c ≤ length L → tied (pushLevel c L) ≡ false
   -- and so of a row of pushes of cells
-  pub row-read : (cs : List ℕ) → Cells cs L → permutationOf (pushLevels cs L) ≡ pushCells cs (permutationOf L)
-  pub row-highest : (cs : List ℕ) → Cells cs L → highest (pushLevels cs L) ≡ highest L + length cs
+  pub row-read : (cs : List ℕ) → Cells (length L) cs → permutationOf (pushLevels cs L) ≡ pushCells cs (permutationOf L)
+  pub row-highest : (cs : List ℕ) → Cells (length L) cs → highest (pushLevels cs L) ≡ highest L + length cs
 
 -- rewriting a permutation of n cells to a target permutation
 pub record Rewriting (n : ℕ) (xs target : List ℕ) : Type 0 where
   pub reaches : pushCells (rewritePushes xs target) xs ≡ target
   pub many : length (rewritePushes xs target) ≡ rewriteCount xs target
   -- each of them is a push of a cell, at a place 2 to n
-  pub cells : (c : ℕ) → member c (rewritePushes xs target) ≡ true → (1 ≤ c) × (c ≤ n)
+  pub cells : Cells n (rewritePushes xs target)
   pub places : Places n (cellPlaces (rewritePushes xs target) xs)
   pub at-most : rewriteCount xs target ≤ n - 1
   -- no shorter row of pushes gives the target
@@ -139,7 +139,7 @@ pub record Storing (n p : ℕ) (q xs : List ℕ) : Type 0 where
   pub reaches : pushCells (storePushes q xs) xs ≡ q ++ without q xs
   -- by as many pushes as it counts, each of a cell, at a place 2 to n
   pub counted : storeCount q xs ≡ length (storePushes q xs)
-  pub cells : (c : ℕ) → member c (storePushes q xs) ≡ true → (1 ≤ c) × (c ≤ n)
+  pub cells : Cells n (storePushes q xs)
   pub places : Places n (cellPlaces (storePushes q xs) xs)
   -- "no shorter row of pushes reaches any order with that prefix"
   pub fewest : (is : List ℕ) → Places n is → take p (pushes is xs) ≡ q → storeCount q xs ≤ length is
@@ -171,9 +171,11 @@ pub record Calling (k : ℕ) (L : List ℕ) : Type 0 where
 
 -- document 02, request 3: the charge that pushes on levels L spend is the sum of all levels afterwards less the sum before
 pub record Spending (L : List ℕ) : Type 0 where
+  -- "a push costs more the lower its cell stands"
+  pub lower : (c d : ℕ) → Cells (length L) (c ∷ d ∷ []) → level L c < level L d → jump d L < jump c L
   -- of one push, and of a row of pushes of cells
   pub push : (c : ℕ) → 1 ≤ c → c ≤ length L → Spends L (pushLevel c L) (jump c L)
-  pub row : (cs : List ℕ) → Cells cs L → Spends L (pushLevels cs L) (chargeOf cs L)
+  pub row : (cs : List ℕ) → Cells (length L) cs → Spends L (pushLevels cs L) (chargeOf cs L)
   -- of a rewrite and of a store
   pub rewrite :
       (target : List ℕ) → 1 ≤ length L → IsPermutation (length L) target
@@ -190,5 +192,5 @@ pub record Spending (L : List ℕ) : Type 0 where
   pub refused : (k : ℕ) → (callNumber k L ≡ 0 → ⊥) → callCharge k L ≡ 0
   pub calls : (ks : List ℕ) → Spends L (afterCalls ks L) (callsCharge ks L)
   -- "in 32 bits": a row of pushes that is not refused, of up to twenty levels, and any list of calls on any levels
-  pub row-fits : (cs : List ℕ) → Cells cs L → length L ≤ 20 → highest L + length cs ≤ 65535 → chargeOf cs L < 2 ^ 32
+  pub row-fits : (cs : List ℕ) → Cells (length L) cs → length L ≤ 20 → highest L + length cs ≤ 65535 → chargeOf cs L < 2 ^ 32
   pub calls-fit : (ks : List ℕ) → callsCharge ks L < 2 ^ 32

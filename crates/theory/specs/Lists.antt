@@ -1,8 +1,9 @@
 -- Lists of cell names: how often a name stands in one, whether it does, what is left without some names, and the names 1 to n; lists in a row; what holds of every entry.
 -- Assumes nothing.
+use mathlib.Core.Path.{_≡_}
 use mathlib.Core.Bool.{Bool, true, false, cond, _&&_, _||_}
 use mathlib.Core.List.{List, [], _∷_, _++_}
-use Prim.Native.Nat.{ℕ, zero, suc, _+_, _-_}
+use Prim.Native.Nat.{ℕ, zero, suc, _+_, _-_, _≤_}
 use lib.Dec.{eqb}
 use lib.ListN.{length, replicate}
 
@@ -44,6 +45,10 @@ namesFrom a (suc n) = a ∷ namesFrom (suc a) n
 -- Document 01, "The module and its jobs": "A group has n cells, 2 to 20, named 1 to n."
 abbrev pub names : ℕ → List ℕ
 names n = namesFrom 1 n
+
+-- names that are cells of a group of n
+abbrev pub Cells : ℕ → List ℕ → Type 0
+Cells n cs = (c : ℕ) → member c cs ≡ true → (1 ≤ c) × (c ≤ n)
 
 -- a list in a row of `room` places, with z past it
 abbrev pub padded : {A : Type 0} → ℕ → A → List A → List A

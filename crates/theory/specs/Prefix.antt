@@ -1,11 +1,11 @@
 -- Prefixes of permutations in lexicographic sequence, and the symbols that they stand for. Assumes nothing.
 use mathlib.Core.Path.{_≡_}
-use mathlib.Core.Bool.{true, false}
+use mathlib.Core.Bool.{false}
 use mathlib.Core.List.{List, [], _∷_, map, flatMap}
-use Prim.Native.Nat.{ℕ, zero, suc, _-_, _/_, _≤_}
+use Prim.Native.Nat.{ℕ, zero, suc, _-_, _/_}
 use lib.Dec.{leb}
 use lib.ListN.{length, getD}
-use Rattle.theory.specs.Lists.{member, repeats, without, begins, names}
+use Rattle.theory.specs.Lists.{repeats, without, begins, names, Cells}
 use Rattle.theory.specs.Least.{least}
 use Rattle.theory.specs.Factorial.{factorial}
 
@@ -13,7 +13,7 @@ use Rattle.theory.specs.Factorial.{factorial}
 pub record IsPrefix (n p : ℕ) (q : List ℕ) : Type 0 where
   pub long : length q ≡ p
   pub distinct : repeats q ≡ false
-  pub named : (c : ℕ) → member c q ≡ true → (1 ≤ c) × (c ≤ n)
+  pub named : Cells n q
 
 -- all prefixes of length p over the names of `free`, which ascend: each name in turn, followed by each prefix over the names that then are left
 unfoldable pub prefixes : ℕ → List ℕ → List (List ℕ)

@@ -59,7 +59,7 @@ returns-2 c =
     let a = past (at .before) .before .before .before .before .args in
     let counted = at .count-steps .ensures in
     with-spent (a .levels .now) (call-spends (a .k) (a .levels .now))
-    (pushes-done (a .k) _ _ (countUp (a .k) (a .levels .now)) (c .done-pushes .ensures ∙ ap (donePushes (a .k)) (counted .spent))
+    (pushes-done (a .k) _ _ (countUp (a .k) (a .levels .now)) (c .done-pushes .ensures ∙ ap (donePushes (a .k)) (counted .charge-is))
     (call (past (at .before)) .number) (counted .levels))
 
 pub count-up-spec : {M : Type 1} → statement M
