@@ -101,6 +101,7 @@ def statuses(texts):
     yield "2, no file", ran('"$0"', COMMAND), 2, "", "usage: "
     yield "2, two files", ran('"$0" "$1" "$1"', COMMAND, PAPER), 2, "", "usage: "
     yield "3, no such file", ran('"$0" "$1"', COMMAND, PAPER / "none"), 3, "", "/none"
+    yield "0, a stack of 320 KiB", ran('ulimit -s 320; "$0" "$1"', COMMAND, ROOT / "sheets/longest"), 0, texts["longest"], ""
     yield "139, a stack of 128 KiB", ran('ulimit -s 128; "$0" "$1"', COMMAND, PAPER), 139, "", None
     reader, writer = os.pipe()
     os.close(reader)

@@ -81,7 +81,7 @@ typedef struct tm_ranked {
 } tm_ranked;
 
 /* What a job that pushes on levels spends: its number of pushes, and its charge (document 02), the total of their jumps. The jump of a push is its cell's new
- * level less the old, so that the charge equals the sum of all levels after the call less the sum before; it is below 20 * 65,536 and fits. Refused, both are 0. */
+ * level less the old, so that the charge equals the sum of all levels after the call less the sum before; it is at most 20 * 65,535 and fits. Refused, both are 0. */
 typedef struct tm_pushes {
     uint8_t number;
     uint32_t pushes;
