@@ -20,6 +20,8 @@ pub const IDLE: u8 = 7;
 pub const SHEET: u8 = 8;
 // a lent list that is shorter than the bench sheet
 pub const PAPER: u8 = 9;
+// bands of levels that do not decide what is read
+pub const UNSURE: u8 = 10;
 
 // n where a group has so many cells, and 0 where it is SIZE. For other crates too. It gives n, so that the compiler knows the range of what it gave.
 pub fn size_within(n: usize) -> usize

@@ -1,99 +1,121 @@
--- Reading a symbol: the number of the prefix that leads the permutation, and what each way out answers, by the tests that the code makes. Assumes nothing.
-use mathlib.Core.Path.{_≡_, ap, _∙_}
+-- Reading a symbol: what a code is judged by, what a record of a permutation is read as, and what each way out answers, by the tests that the code makes.
+-- Assumes nothing.
+use mathlib.Core.Path.{_≡_, sym, ap, _∙_}
+use mathlib.Core.Bool.{and-eq-true-iff, and-false}
 use mathlib.Core.List.{List}
 use Prim.Native.Nat.{ℕ, _≤_, _<_}
 use native.Mathlib.Omega.{arith}
-use borrow.Author.Tests.{le-leb, lt-leb, lt-ltb, le-ltb}
-use lib.ListN.{length, take}
+use borrow.Author.Tests.{le-leb, lt-leb, leb-true, lt-ltb, le-ltb}
+use lib.Dec.{leb}
+use lib.ListN.{length}
 use Rattle.theory.specs.Reasons.{value, idle}
 use Rattle.theory.specs.Factorial.{factorial}
-use Rattle.theory.specs.Permutation.{row}
 use Rattle.theory.specs.Levels.{permutationOf, readNumber}
 use Rattle.theory.specs.Prefix.{prefixNumber, prefixLength, symbolOf}
 use Rattle.theory.proofs.Prefixes.{coding}
+use Rattle.theory.proofs.Refusal.{refused, orElse-refused, tested}
 use Rattle.theory.proofs.Sorting.{permutationOf-permutation, permutationOf-length}
-use Rattle.permutation.specs.Records.{recordNumber}
-use Rattle.permutation.specs.Spots.{checked, HasSpots}
+use Rattle.permutation.specs.Records.{listOf, recordOf, recordNumber}
+use Rattle.permutation.specs.Spots.{checked}
 use Rattle.permutation.specs.declared.answers.Permutation.{Permutation}
-use Rattle.permutation.specs.declared.answers.Permuted.{Permuted}
 use Rattle.permutation.specs.declared.validity.Checked.{Checked}
-use Rattle.permutation.proofs.Records.{sound, fault-record}
+use Rattle.permutation.proofs.Records.{Sound, fault-record}
+use Rattle.permutation.proofs.Answering.{list-record}
 use Rattle.permutation.proofs.Checking.{check-spots}
-use Rattle.theory.proofs.Refusal.{refused, orElse-refused, Readable, read-done}
-use Rattle.charge.proofs.Sorting.{row-long, row-first}
-use Rattle.symbols.specs.Answers.{symbolNumber, symbolAnswer}
+use Rattle.symbols.specs.Answers.{coded, codeOf, idleOf, symbolNumber, symbolAnswer}
+use Rattle.symbols.specs.Reading.{codeJudged, ledAnswer}
 use Rattle.symbols.specs.PrefixDigits.{RowSpots}
 use Rattle.symbols.specs.declared.answers.Symbol.{Symbol}
-use Rattle.charge.proofs.ReadLevels.{Standing}
+use Rattle.symbols.specs.declared.code.Code.{Code}
 
--- ---- the permutation that was read
+-- ---- the number of a code of m symbols on n cells
 
-module _ {L : List ℕ} {r : Permuted} (s : Standing L r) where
-  cells-are : r .permutation .cells ≡ row (permutationOf L)
-  cells-are = ap (λ (p : Permutation). p .cells) (s .is)
+module _ (n m : ℕ) where
+  pub code-none : m < 1 → value ≡ codeOf n m
+  code-none h = rw (lt-leb 1 m h)
 
-  cells-first : take (length L) (r .permutation .cells) ≡ permutationOf L
-  cells-first = row-first L (s .levels .many) cells-are
+  pub code-many : factorial n < m → value ≡ codeOf n m
+  code-many h = rw (lt-leb m (factorial n) h, and-false (leb 1 m))
 
-  cells-long : length (r .permutation .cells) ≡ 20
-  cells-long = row-long L (s .levels .many) cells-are
+  pub code-done : 1 ≤ m → m ≤ factorial n → codeOf n m ≡ 0
+  code-done low high = rw (le-leb 1 m low, le-leb m (factorial n) high)
 
-  -- the check of the record finds its spots
-  spots-found : {k : Checked} → k ≡ checked (r .permutation) → HasSpots (take (length L) (r .permutation .cells)) (length L) (k .spots)
-  spots-found h =
-      let size : r .permutation .n ≡ length L = ap (λ (p : Permutation). p .n) (s .is) ∙ permutationOf-length L in
-      let right : recordNumber (r .permutation) ≡ 0 =
-      rw (s .is) (fault-record (length L) (permutationOf L) (s .levels .few) (s .levels .many) (permutationOf-permutation L)) in
-      rw size at (check-spots (r .permutation) h (sound (r .permutation) cells-long right))
+  pub code-range : codeOf n m ≡ 0 → (1 ≤ m) × (m ≤ factorial n)
+  code-range z =
+      let t = and-eq-true-iff (leb 1 m) (leb m (factorial n)) .0 (tested (coded n m) (λ e. omega arith) z) in
+      (leb-true 1 m (t .0), leb-true m (factorial n) (t .1))
 
-  pub row-spots : {p m : ℕ} {k : Checked} → k ≡ checked (r .permutation)
-      → p ≡ prefixLength (length L) m → m ≤ factorial (length L) → RowSpots (length L) p (r .permutation .cells) (k .spots)
-  row-spots {m = m} h e fits = record {
-    many = s .levels .many;
-    within = omega (arith, coding (length L) m fits .at-most);
-    long = cells-long;
-    permutation = rw cells-first (permutationOf-permutation L);
-    has-spots = spots-found h;
+-- what a judge says of it
+module _ (n m : ℕ) {code : Code} (e : code ≡ codeJudged n m) where
+  pub judged-number : code .number ≡ codeOf n m
+  unfolding codeJudged
+  judged-number = ap (λ (k : Code). k .number) e
+
+  pub judged-range : code .number ≡ 0 → (1 ≤ m) × (m ≤ factorial n)
+  judged-range z = code-range n m (sym judged-number ∙ z)
+
+  pub judged-length : code .number ≡ 0 → code .length ≡ prefixLength n m
+  unfolding codeJudged
+  judged-length z = ap (λ (k : Code). k .length) e ∙ rw (sym judged-number ∙ z)
+
+-- ---- a record that is read by its spots
+
+abbrev pub symbolWith : ℕ → ℕ → Symbol
+symbolWith number symbol = record { number = number; symbol = symbol }
+
+module _ {r : Permutation} (s : Sound r) where
+  pub row-spots : {p : ℕ} (m : ℕ) {k : Checked} → length (r .cells) ≡ 20 → k ≡ checked r → p ≡ prefixLength (r .n) m → m ≤ factorial (r .n)
+      → RowSpots (r .n) p (r .cells) (k .spots)
+  row-spots m long h e fits = record {
+    many = s .many;
+    within = omega (arith, coding (r .n) m fits .at-most);
+    long = long;
+    permutation = s .permutation;
+    has-spots = check-spots r h s;
   }
 
-  -- the number of the prefix is the symbol
-  pub symbol-is : (m : ℕ) {symbol p : ℕ} → symbol ≡ prefixNumber (length L) p (take (length L) (r .permutation .cells))
-      → p ≡ prefixLength (length L) m → symbol ≡ symbolOf (length L) m (permutationOf L)
-  unfolding symbolOf
-  symbol-is m e l = cc cells-first
+pub symbol-is : (n m : ℕ) (xs : List ℕ) {s p : ℕ} → s ≡ prefixNumber n p xs → p ≡ prefixLength n m → s ≡ symbolOf n m xs
+unfolding symbolOf
+symbol-is n m xs e l = cc e
+
+-- the answer by the symbol
+module _ (n m : ℕ) (xs : List ℕ) {s : ℕ} (e : s ≡ symbolOf n m xs) where
+  pub led-idle : m ≤ s → symbolWith idle 0 ≡ ledAnswer n m xs
+  unfolding ledAnswer
+  led-idle h = rw (le-ltb (symbolOf n m xs) m (omega (arith, e)))
+
+  pub led-done : s < m → symbolWith 0 s ≡ ledAnswer n m xs
+  unfolding ledAnswer
+  led-done h = rw (lt-ltb (symbolOf n m xs) m (omega (arith, e)), e)
+
+-- ---- a record that holds the permutation of levels
+module _ (L : List ℕ) {r : Permutation} (few : 2 ≤ length L) (many : length L ≤ 20) (is : r ≡ recordOf (permutationOf L)) where
+  size-is : r .n ≡ length L
+  size-is = ap (λ (p : Permutation). p .n) is ∙ permutationOf-length L
+
+  pub readable-by : {p : ℕ} (m : ℕ) → m ≤ factorial (length L) → p ≡ prefixLength (length L) m
+      → (recordNumber r ≡ 0) × (m ≤ factorial (r .n)) × (p ≡ prefixLength (r .n) m)
+  readable-by m fits e =
+      (rw is (fault-record (length L) (permutationOf L) few many (permutationOf-permutation L)), rw size-is fits, rw size-is e)
+
+  pub led-by : (m : ℕ) {a : Symbol} → a ≡ ledAnswer (r .n) m (listOf r) → a ≡ ledAnswer (length L) m (permutationOf L)
+  led-by m e = e ∙ rw (is, list-record (length L) (permutationOf L) few many (permutationOf-permutation L), permutationOf-length L)
 
 -- ---- what is answered
 module _ (L : List ℕ) (m : ℕ) where
-  pub symbol-refused : {number : ℕ} → number ≡ symbolNumber L m → (number ≡ 0 → ⊥)
-      → _≡_ {A = Symbol} (record { number = number; symbol = 0 }) (symbolAnswer L m)
+  pub symbol-refused : {number : ℕ} → number ≡ symbolNumber L m → (number ≡ 0 → ⊥) → symbolWith number 0 ≡ symbolAnswer L m
   unfolding symbolAnswer
-  symbol-refused e ne = refused (λ number symbol. record { number = number; symbol = symbol }) (symbolOf (length L) m (permutationOf L)) 0 e ne
+  symbol-refused e ne = refused symbolWith (symbolOf (length L) m (permutationOf L)) 0 e ne
 
   pub symbol-fault : {number : ℕ} → number ≡ readNumber L → (number ≡ 0 → ⊥) → number ≡ symbolNumber L m
   unfolding symbolNumber
   symbol-fault e ne = orElse-refused (readNumber L) _ e ne
 
-  module _ (r : Readable L) where
-    pub symbol-none : m < 1 → value ≡ symbolNumber L m
+  module _ (read : readNumber L ≡ 0) where
+    pub symbol-code : {number : ℕ} → number ≡ codeOf (length L) m → (number ≡ 0 → ⊥) → number ≡ symbolNumber L m
     unfolding symbolNumber
-    symbol-none h = rw (read-done r, lt-leb 1 m h)
+    symbol-code e ne = rw read (orElse-refused (codeOf (length L) m) _ e ne)
 
-    pub symbol-many : 1 ≤ m → factorial (length L) < m → value ≡ symbolNumber L m
-    unfolding symbolNumber
-    symbol-many low h = rw (read-done r, le-leb 1 m low, lt-leb m (factorial (length L)) h)
-
-    module _ (low : 1 ≤ m) (high : m ≤ factorial (length L)) where
-      pub symbol-idle : m ≤ symbolOf (length L) m (permutationOf L) → idle ≡ symbolNumber L m
-      unfolding symbolNumber
-      symbol-idle h =
-          rw (read-done r, le-leb 1 m low, le-leb m (factorial (length L)) high, le-ltb (symbolOf (length L) m (permutationOf L)) m h)
-
-      symbol-led : symbolOf (length L) m (permutationOf L) < m → symbolNumber L m ≡ 0
-      unfolding symbolNumber
-      symbol-led h =
-          rw (read-done r, le-leb 1 m low, le-leb m (factorial (length L)) high, lt-ltb (symbolOf (length L) m (permutationOf L)) m h)
-
-      pub symbol-done : {symbol : ℕ} → symbol ≡ symbolOf (length L) m (permutationOf L) → symbol < m
-          → _≡_ {A = Symbol} (record { number = 0; symbol = symbol }) (symbolAnswer L m)
-      unfolding symbolAnswer
-      symbol-done e h = rw (symbol-led (omega arith), e)
+    pub symbol-led : codeOf (length L) m ≡ 0 → ledAnswer (length L) m (permutationOf L) ≡ symbolAnswer L m
+    unfolding symbolAnswer symbolNumber ledAnswer
+    symbol-led z = rw (read, z)

@@ -26,6 +26,9 @@ use Rattle.symbols.specs.declared.answers.Prefixed.{Prefixed}
 abbrev pub coded : ℕ → ℕ → Bool
 coded n m = leb 1 m && leb m (factorial n)
 
+abbrev pub codeOf : ℕ → ℕ → ℕ
+codeOf n m = cond (coded n m) done value
+
 -- "symbol at or above m" is value too
 unfoldable pub codeNumber : ℕ → ℕ → ℕ → ℕ
 codeNumber n m s = orElse (sizeOf n) (cond (coded n m && ltb s m) done value)
@@ -68,10 +71,13 @@ storeAnswer L m s = leadAnswer (codeNumber (length L) m s) L (prefixOn L m s)
 abbrev pub storeLevels : List ℕ → ℕ → ℕ → List ℕ
 storeLevels L m s = leadLevels (codeNumber (length L) m s) L (prefixOn L m s)
 
--- size and tie, value, then idle: "reading: the order's prefix has number m or higher"
+-- idle: "reading: the order's prefix has number m or higher"
+abbrev pub idleOf : ℕ → ℕ → List ℕ → ℕ
+idleOf n m xs = cond (ltb (symbolOf n m xs) m) done idle
+
+-- size and tie, value, then idle
 unfoldable pub symbolNumber : List ℕ → ℕ → ℕ
-symbolNumber L m =
-    orElse (readNumber L) (orElse (cond (coded (length L) m) done value) (cond (ltb (symbolOf (length L) m (permutationOf L)) m) done idle))
+symbolNumber L m = orElse (readNumber L) (orElse (codeOf (length L) m) (idleOf (length L) m (permutationOf L)))
 
 -- "Reading gives the symbol whose prefix leads the order."
 unfoldable pub symbolAnswer : List ℕ → ℕ → Symbol

@@ -14,4 +14,5 @@ reasons = record {
   idle = refl;
   sheet = refl;
   paper = refl;
+  unsure = refl;
 }

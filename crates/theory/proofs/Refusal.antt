@@ -38,13 +38,30 @@ module _ {A R : Type 0} (answer : ℕ → A → R) {why : ℕ} (a z : A) where
 pub orElse-refused : {number : ℕ} (a b : ℕ) → number ≡ a → (number ≡ 0 → ⊥) → number ≡ orElse a b
 orElse-refused {number} a b e ne = rw (← e, ne-eqb number 0 ne)
 
+-- a number that the first does not refuse by is the second's, past the first
+module _ (a b : ℕ) {k : ℕ} (first : a ≡ k → k ≡ 0) where
+  pub orElse-past : orElse a b ≡ k → (a ≡ 0) × (b ≡ k)
+  orElse-past h = by-name a 0 (λ q e. (q, rw e at h)) (λ ne e. let is : a ≡ k = rw e at h in absurd (ne (is ∙ first is)))
+
+  pub orElse-only : (b ≡ k → k ≡ 0) → orElse a b ≡ k → k ≡ 0
+  orElse-only second h = second (orElse-past h .1)
+
 pub orElse-done : (a b : ℕ) → orElse a b ≡ 0 → (a ≡ 0) × (b ≡ 0)
-orElse-done a b h = by-name a 0 (λ q e. (q, rw e at h)) (λ ne e. absurd (ne (rw e at h)))
+orElse-done a b h = orElse-past a b (λ e. refl) h
 
 -- the test of one reason
 pub tested : (test : Bool) {why : ℕ} → (why ≡ 0 → ⊥) → cond test done why ≡ 0 → test ≡ true
 tested true ne h = refl
 tested false ne h = absurd (ne h)
+
+pub test-failed : (test : Bool) (why : ℕ) {k : ℕ} → (k ≡ 0 → ⊥) → cond test done why ≡ k → test ≡ false
+test-failed true why ne h = absurd (ne (sym h))
+test-failed false why ne h = refl
+
+-- it gives no other number
+pub test-only : (test : Bool) {why k : ℕ} → (k ≡ why → ⊥) → cond test done why ≡ k → k ≡ 0
+test-only true ne h = sym h
+test-only false ne h = absurd (ne (sym h))
 
 -- ---- sizes
 

@@ -33,6 +33,8 @@ pub record Reasons : Type 0 where
   pub sheet : reason.sheet ≡ 8
   -- document 02, request 2: "New numbers: 9 paper"
   pub paper : reason.paper ≡ 9
+  -- request 4: "New numbers: 10 unsure"
+  pub unsure : reason.unsure ≡ 10
 
 -- factorials and falling factorials
 pub record Factorials : Type 0 where

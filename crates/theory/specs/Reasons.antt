@@ -43,6 +43,10 @@ sheet = 8
 abbrev pub paper : ℕ
 paper = 9
 
+-- document 02, request 4: "10 unsure, when the condition fails"
+abbrev pub unsure : ℕ
+unsure = 10
+
 -- "A group has n cells, 2 to 20"; any other n is size
 abbrev pub sized : ℕ → Bool
 sized n = leb 2 n && leb n 20

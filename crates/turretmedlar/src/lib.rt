@@ -10,12 +10,15 @@ ghost use Rattle.ranking.specs.Answers.{digitsAnswer, rankAnswer, unrankAnswer}
 ghost use Rattle.charge.specs.Answers.{readAnswer, placeAnswer, placeLevels, callAnswer};
 ghost use Rattle.rewriting.specs.Answers.{rewriteAnswer, rewriteLevels, rewriteList, RewriteOf};
 ghost use Rattle.symbols.specs.Answers.{storeAnswer, storeLevels, StoreOf, symbolAnswer};
+ghost use Rattle.bands.specs.Answers.{sureAnswer, OrderExactly, sureSymbolAnswer, SymbolExactly};
 ghost use Rattle.sheet.specs.Sheet.{sheet as contents};
 ghost use Rattle.layout.specs.Text.{textOf};
 ghost use Rattle.text.specs.Answers.{printAnswer, printedOn};
 ghost use Rattle.text.specs.Claims.{textBound};
 ghost use Rattle.writer.specs.RoundTrips.{RoundTrips};
 ghost use Rattle.listing.specs.LentLists.{lists, heldIn, listsNumber, listsAnswer, listsOn};
+use bands::read::read_bands;
+use bands::read_symbol::read_symbol_bands;
 use charge::answers::Pushes;
 use charge::count_up::count_up;
 use charge::push_level::push_level;
@@ -125,6 +128,22 @@ pub extern "C" fn tm_read_symbol(levels: &[u16], m: u64) -> Symbol
     ensures { λ r. ⌜ r ≡ symbolAnswer (now (levels .entry)) m ⌝ }
 {
     read_symbol(levels, m)
+}
+
+#[no_mangle]
+pub extern "C" fn tm_read_bands(lowest: &[u16], highest: &[u16]) -> Permuted
+    ensures answer { λ r. ⌜ r ≡ sureAnswer (now (lowest .entry)) (now (highest .entry)) ⌝ }
+    ensures exactly { λ r. ⌜ OrderExactly (now (lowest .entry)) (now (highest .entry)) r ⌝ }
+{
+    read_bands(lowest, highest)
+}
+
+#[no_mangle]
+pub extern "C" fn tm_read_symbol_bands(lowest: &[u16], highest: &[u16], m: u64) -> Symbol
+    ensures answer { λ r. ⌜ r ≡ sureSymbolAnswer (now (lowest .entry)) (now (highest .entry)) m ⌝ }
+    ensures exactly { λ r. ⌜ SymbolExactly (now (lowest .entry)) (now (highest .entry)) m r ⌝ }
+{
+    read_symbol_bands(lowest, highest, m)
 }
 
 #[no_mangle]
