@@ -1,12 +1,12 @@
 #!/usr/bin/env python3
 """What the program `readings` must write for its `stdin`, worked out from documents 01, 02 and 001 alone, by `model.py`.
 
-What the documents print, and charges found by hand, is typed below as data: the model is checked against it, and `stdin` must have those readings, before a line is
-written.
+What the documents print, and what was found from them by hand, is typed below as data: the model is checked against it, and `stdin` must have those readings,
+before a line is written.
 
     python3 crates/readings/expected.py > crates/readings/stdout
 """
-from itertools import islice, permutations
+from itertools import islice, permutations, product
 from math import factorial, perm
 from pathlib import Path
 
@@ -32,7 +32,8 @@ def do_walk(steps, every, n, *names):
 
 JOBS = dict(rank=do_rank, digits=do_digits, successor=do_successor, push=do_push, run_steps=do_run_steps, unrank=do_unrank, read=do_read,
             push_level=do_push_level, count_up=do_count_up, run_levels=do_run_levels, run_calls=do_run_calls, rewrite=do_rewrite, prefix=do_prefix,
-            store=do_store, read_symbol=do_read_symbol, symbols=do_symbols, write=do_write)
+            store=do_store, read_symbol=do_read_symbol, symbols=do_symbols, write=do_write, read_bands=do_read_bands,
+            read_symbol_bands=do_read_symbol_bands)
 
 
 def answer(line):
@@ -92,6 +93,18 @@ CHARGES |= dict.fromkeys([f"count_up 65516 of {LOWEST}", f"run_levels 65516 of {
                          sum(range(65516, 65536)) - sum(range(20)))
 CHARGES |= dict.fromkeys([f"rewrite 19 bytes 20 levels {LOW} to 20 | {NAMES}", f"store 0 of {factorial(20)} on {LOW}"],
                          sum(range(65517, 65536)) - sum(range(19)))
+# Document 02, request 4, by hand. "Every choice has no tie and yields that same order"; bands that touch, and equal levels, which are unsure and not tie; "the same
+# p cells lead in the same sequence", here [3,1], number 6, and cell 3; unsure before idle; one symbol alone; size, fit, value, each before the next
+BANDS = {"read_bands 3 lowest 10 1 5 highest 12 4 9": "0 3 | 1 3 2", "read_bands 2 lowest 0 65535 highest 0 65535": "0 2 | 2 1",
+         "read_bands 3 lowest 10 1 5 highest 12 4 10": "10 0 | 0", "read_bands 3 lowest 10 1 5 highest 12 5 9": "10 0 | 0",
+         "read_bands 2 lowest 7 7 highest 7 7": "10 0 | 0", "read_bands 4 lowest 5 1 7 1 highest 6 4 9 4": "10 0 | 0",
+         "read_symbol_bands 12 on 4 lowest 5 1 7 1 highest 6 4 9 4": "0 6", "read_symbol_bands 4 on 4 lowest 1 1 7 1 highest 6 6 9 6": "0 2",
+         "read_symbol_bands 13 on 4 lowest 5 1 7 1 highest 6 4 9 4": "10 0", "read_symbol_bands 12 on 4 lowest 5 1 7 1 highest 6 5 9 4": "10 0",
+         "read_symbol_bands 3 on 3 lowest 5 3 1 highest 6 4 9": "10 0", "read_symbol_bands 6 on 4 lowest 5 1 7 1 highest 6 4 9 4": "7 0",
+         "read_symbol_bands 7 on 4 lowest 5 1 7 1 highest 6 4 9 4": "0 6", "read_symbol_bands 5 on 4 lowest 5 1 7 1 highest 6 5 9 4": "10 0",
+         "read_symbol_bands 1 on 2 lowest 7 7 highest 7 7": "0 0", "read_bands 1 lowest 5 highest 5 6": "1 0 | 0", "read_bands 2 lowest 5 7 highest 4": "2 0 | 0",
+         "read_symbol_bands 0 on 2 lowest 5 7 highest 4 6 9": "2 0", "read_bands 3 lowest 5 5 7 highest 6 6 6": "5 0 | 0",
+         "read_symbol_bands 5 on 4 lowest 5 1 7 2 highest 6 4 9 1": "5 0", "read_symbol_bands 3 on 2 lowest 7 7 highest 7 7": "5 0"}
 
 # Document 001. The text at hand has no pictures: of Example 1 it has the places, of Example 9 and Fig. 2 what is said of them, of the levels in Fig. 3 no numbers.
 EXAMPLE_1 = [2, 3, 3, 2, 3, 3]
@@ -314,6 +327,25 @@ def check_charges(lines):
                 assert read(levels)[0] != n or max(levels) - min(levels) == n - 1 and charge == n * k
 
 
+def check_bands(lines):
+    for line, expected in BANDS.items():
+        assert answer(line).split(" : ")[1] == expected and line in lines
+    # comparing gives what every choice gives: for 2 and 3 cells all sequences of the bands' ends, and of 4 cells all bands of 4 levels
+    for n, top in ((2, 3), (3, 5), (4, 3)):
+        for bands in product([(low, high) for high in range(top + 1) for low in range(high + 1)], repeat=n):
+            lows, highs = zip(*bands)
+            assert leaders_compared(n, lows, highs) == order_of_choices(lows, highs)
+            assert all(leaders_compared(p, lows, highs) == leaders_of_choices(p, lows, highs) for p in range(n))
+    # bands of one level are read as levels are, where these have no tie
+    for n in range(2, 6):
+        for order in permutations(range(1, n + 1)):
+            levels = gapless([*order])
+            assert do_read_bands(n, *levels, *levels) == do_read(*levels)
+            assert all(do_read_symbol_bands(m, n, *levels, *levels) == do_read_symbol(m, *levels) for m in range(factorial(n) + 2))
+    for line in (line for line in lines if "_bands " in line):
+        assert sum(word.isdigit() for word in line.split()) < 64, "what the program reads of a line"
+
+
 lines = Path(__file__).with_name("stdin").read_text().splitlines()
 check_document_01({*lines})
 check_document_001({*lines})
@@ -322,5 +354,6 @@ check_stores({*lines})
 check_writing({*lines})
 check_runs({*lines})
 check_charges({*lines})
+check_bands({*lines})
 for line in lines:
     print(answer(line))

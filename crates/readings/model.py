@@ -1,8 +1,8 @@
-"""A model of document 01's rules on lists, as the paper words them, with the storing rule of document 02's request 1 in place of its own, the writing of request 2
-and the charge of request 3; nothing of the code. `expected.py` checks it against what documents 01, 02 and 001 print; the sheets of `sheets` are worked and
-written by it too."""
-from itertools import chain, repeat
-from math import factorial, perm
+"""A model of document 01's rules on lists, as the paper words them, with the storing rule of document 02's request 1 in place of its own, the writing of request 2,
+the charge of request 3 and the bands of request 4; nothing of the code. `expected.py` checks it against what documents 01, 02 and 001 print; the sheets of `sheets`
+are worked and written by it too."""
+from itertools import chain, product, repeat
+from math import factorial, perm, prod
 
 # The rules of document 01; that of storing is document 02's. An order is a list of names, place 1 first.
 
@@ -131,7 +131,7 @@ def store_pushes(order, prefix):
 
 
 # Why a job is sent back: the lowest of the numbers whose reason holds, 0 where none does.
-REASONS = dict(size=1, fit=2, muddle=3, tie=4, value=5, ceiling=6, idle=7, sheet=8, paper=9)
+REASONS = dict(size=1, fit=2, muddle=3, tie=4, value=5, ceiling=6, idle=7, sheet=8, paper=9, unsure=10)
 
 
 def lowest(**holds):
@@ -384,3 +384,72 @@ def do_write(room, *numbers):
     commands = [held_command(left) for _ in range(min(command_count, 1000))]
     number, made = write_sheet(room, group_count, groups, command_count, commands)
     return [number, len(made), "|", *made, *[9] * (room - len(made))]
+
+
+# Bands instead of levels, document 02, request 4. Each of two lists has an entry by cell name: the lowest levels, and the highest.
+
+def choices(lows, highs):
+    """Every choice of one level from each band."""
+    return product(*[range(low, high + 1) for low, high in zip(lows, highs)])
+
+
+def one(found):
+    """The only one; None where there are several."""
+    return found.pop() if len(found) == 1 else None
+
+
+def order_of_choices(lows, highs):
+    """The order, where "every choice of one level from each band has no tie and yields that same order", else None."""
+    return one({None if level_reasons(levels)["tie"] else (*read(levels),) for levels in choices(lows, highs)})
+
+
+def leaders(p, levels):
+    """The p cells that lead, where "each strictly above all cells below it", else None."""
+    order = read(levels)
+    above = all(levels[c - 1] > levels[below - 1] for place, c in enumerate(order[:p], 1) for below in order[place:])
+    return (*order[:p],) if above else None
+
+
+def leaders_of_choices(p, lows, highs):
+    """The p cells, where "in every choice, the same p cells lead in the same sequence", else None."""
+    return one({leaders(p, levels) for levels in choices(lows, highs)})
+
+
+def leaders_compared(p, lows, highs):
+    """The same where the choices are too many to try: a cell is above another in all of them where its lowest level is above the other's highest. All n is the order."""
+    order = read(lows)
+    above = all(lows[c - 1] > highs[below - 1] for place, c in enumerate(order[:p], 1) for below in order[place:])
+    return (*order[:p],) if above else None
+
+
+def few(lows, highs):
+    """Whether the choices are few enough to try all."""
+    return prod(high - low + 1 for low, high in zip(lows, highs)) <= 10000
+
+
+def band_reasons(lows, highs):
+    return dict(size=not sized(len(lows)), fit=len(lows) != len(highs), value=any(low > high for low, high in zip(lows, highs)))
+
+
+def do_read_bands(n, *levels):
+    """How many lowest levels there are, these, and the highest ones."""
+    lows, highs = levels[:n], levels[n:]
+    number = lowest(**band_reasons(lows, highs))
+    if number:
+        return [number, *record([])]
+    order = order_of_choices(lows, highs) if few(lows, highs) else leaders_compared(n, lows, highs)
+    return [lowest(unsure=order is None), *record([*order] if order else [])]
+
+
+def do_read_symbol_bands(m, n, *levels):
+    """Unsure "comes before idle"."""
+    lows, highs = levels[:n], levels[n:]
+    number = lowest(**band_reasons(lows, highs)) or lowest(**code_reasons(n, m))
+    if number:
+        return [number, 0]
+    p = prefix_length(n, m)
+    prefix = leaders_of_choices(p, lows, highs) if few(lows, highs) else leaders_compared(p, lows, highs)
+    if prefix is None:
+        return [REASONS["unsure"], 0]
+    symbol = prefix_number([*range(1, n + 1)], [*prefix])
+    return [REASONS["idle"], 0] if symbol >= m else [0, symbol]

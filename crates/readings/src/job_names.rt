@@ -36,7 +36,16 @@ pub const PREFIX: u8 = 17;
 
 pub const WRITE: u8 = 18;
 
-pub const NO_JOB: u8 = 19;
+pub const READ_BANDS: u8 = 19;
+
+pub const READ_SYMBOL_BANDS: u8 = 20;
+
+pub const NO_JOB: u8 = 21;
+
+// A space past the line.
+fn letter(line: &[u8], i: usize) -> u8 {
+    if i < line.len() { line[i] } else { b' ' }
+}
 
 fn job_of_p(second: u8, fifth: u8) -> u8 {
     if second == b'r' {
@@ -45,11 +54,18 @@ fn job_of_p(second: u8, fifth: u8) -> u8 {
     if fifth == b'_' { PUSH_LEVEL } else { PUSH }
 }
 
-fn job_of_re(third: u8, fifth: u8) -> u8 {
-    if third == b'w' {
-        return REWRITE;
+fn job_of_read(line: &[u8]) -> u8 {
+    if letter(line, 4) != b'_' {
+        return READ;
     }
-    if fifth == b'_' { READ_SYMBOL } else { READ }
+    if letter(line, 5) == b'b' {
+        return READ_BANDS;
+    }
+    if letter(line, 11) == b'_' {
+        READ_SYMBOL_BANDS
+    } else {
+        READ_SYMBOL
+    }
 }
 
 fn job_of_run(fifth: u8) -> u8 {
@@ -60,11 +76,14 @@ fn job_of_run(fifth: u8) -> u8 {
     }
 }
 
-fn job_of_r(second: u8, third: u8, fifth: u8) -> u8 {
-    match second {
+fn job_of_r(line: &[u8]) -> u8 {
+    if letter(line, 2) == b'w' {
+        return REWRITE;
+    }
+    match letter(line, 1) {
         b'a' => RANK,
-        b'e' => job_of_re(third, fifth),
-        _ => job_of_run(fifth),
+        b'e' => job_of_read(line),
+        _ => job_of_run(letter(line, 4)),
     }
 }
 
@@ -82,17 +101,14 @@ fn job_of_w(second: u8) -> u8 {
 
 // The first letter of the word tells the job, but for those on p, r, s and w.
 pub fn job_of(line: &[u8]) -> u8 {
-    if line.len() < 5 {
-        return NO_JOB;
-    }
-    match line[0] {
+    match letter(line, 0) {
         b'd' => DIGITS,
         b'u' => UNRANK,
         b'c' => COUNT_UP,
-        b'p' => job_of_p(line[1], line[4]),
-        b'r' => job_of_r(line[1], line[2], line[4]),
-        b's' => job_of_s(line[1]),
-        b'w' => job_of_w(line[1]),
+        b'p' => job_of_p(letter(line, 1), letter(line, 4)),
+        b'r' => job_of_r(line),
+        b's' => job_of_s(letter(line, 1)),
+        b'w' => job_of_w(letter(line, 1)),
         _ => NO_JOB,
     }
 }

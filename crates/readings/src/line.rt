@@ -1,11 +1,14 @@
 // A line of the input: its first word names the job, and the numbers after it are the job's input.
 ghost use Prim.Native.Nat.{_≤_};
+use super::band_jobs::on_bands;
 use super::job_names::DIGITS;
 use super::job_names::NO_JOB;
 use super::job_names::PREFIX;
 use super::job_names::PUSH;
 use super::job_names::RANK;
 use super::job_names::READ;
+use super::job_names::READ_BANDS;
+use super::job_names::READ_SYMBOL_BANDS;
 use super::job_names::REWRITE;
 use super::job_names::RUN_CALLS;
 use super::job_names::RUN_STEPS;
@@ -81,6 +84,7 @@ fn reply(text: &mut Text, at: usize, job: u8, numbers: &Numbers, count: usize) -
         SYMBOLS => on_symbols(text, at, numbers[0], numbers, count),
         PREFIX => on_prefix(text, at, numbers),
         WRITE => on_write(text, at, numbers),
+        READ_BANDS..=READ_SYMBOL_BANDS => on_bands(text, at, job, numbers, count),
         _ => on_levels(text, at, job, numbers, count),
     }
 }
