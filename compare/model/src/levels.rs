@@ -13,7 +13,7 @@ pub struct Spent {
 }
 
 /// "Entry by cell name"
-fn level(levels: &[u16], cell: u8) -> u16 {
+pub(crate) fn level(levels: &[u16], cell: u8) -> u16 {
     levels[usize::from(cell) - 1]
 }
 

@@ -1,6 +1,6 @@
 //! Why a job is refused.
 
-/// The number of the reason for which a job is refused: 1 size .. 9 paper.
+/// The number of the reason for which a job is refused: 1 size .. 10 unsure.
 #[derive(Clone, Copy, Debug, PartialEq, Eq, PartialOrd, Ord)]
 pub enum Reason {
     Size = 1,
@@ -12,9 +12,11 @@ pub enum Reason {
     Idle,
     Sheet,
     Paper,
+    Unsure,
 }
 
-/// `reason`, when it holds. Checks follow each other by rising number, so the lowest number is given; those of a sheet by its sequence, so the first met is.
+/// `reason`, when it holds. Checks follow each other by rising number, so the lowest number is given, but unsure before idle; those of a sheet by its sequence, so the
+/// first met is.
 pub(crate) fn refuse_if(holds: bool, reason: Reason) -> Result<(), Reason> {
     if holds {
         Err(reason)

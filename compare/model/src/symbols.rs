@@ -5,7 +5,7 @@ use crate::permutations::factorial;
 use crate::reason::{refuse_if, Reason};
 
 /// "m outside 1 to n!"
-fn check_code(n: usize, m: u64) -> Result<(), Reason> {
+pub(crate) fn check_code(n: usize, m: u64) -> Result<(), Reason> {
     refuse_if(m < 1 || m > factorial(n), Reason::Value)
 }
 
@@ -63,12 +63,17 @@ pub fn store(levels: &mut [u16], m: u64, symbol: u64) -> Result<Spent, Reason> {
     Ok(Spent { pushes: r as u32, charge })
 }
 
-/// "Reading gives the symbol whose prefix leads the order." Refused: "the order's prefix has number m or higher".
+/// The symbol of the prefix that leads. Refused: "the order's prefix has number m or higher".
+pub(crate) fn symbol_of_prefix(n: usize, m: u64, prefix: &[u8]) -> Result<u64, Reason> {
+    let symbol = number_of_prefix(n, prefix);
+    refuse_if(symbol >= m, Reason::Idle)?;
+    Ok(symbol)
+}
+
+/// "Reading gives the symbol whose prefix leads the order."
 pub fn read_symbol(levels: &[u16], m: u64) -> Result<u64, Reason> {
     let names = names_by_level(levels)?;
     let n = names.len();
     check_code(n, m)?;
-    let symbol = number_of_prefix(n, &names[..prefix_length(n, m)]);
-    refuse_if(symbol >= m, Reason::Idle)?;
-    Ok(symbol)
+    symbol_of_prefix(n, m, &names[..prefix_length(n, m)])
 }

@@ -1,5 +1,6 @@
 //! The model, held to the definitions and claims of documents 01 and 02.
 
+mod bands;
 mod charge;
 mod definitions;
 mod readings;

@@ -4,7 +4,8 @@ use super::permutation;
 use crate::Reason::{self, Ceiling, Fit, Idle, Muddle, Size, Tie, Value};
 use crate::{count_up, digits, push, push_level, rank, read, read_symbol, rewrite, store, successor, unrank, Permutation};
 
-const DOCUMENTS: [(Reason, u8); 9] = [(Size, 1), (Fit, 2), (Muddle, 3), (Tie, 4), (Value, 5), (Ceiling, 6), (Idle, 7), (Reason::Sheet, 8), (Reason::Paper, 9)];
+const DOCUMENTS: [(Reason, u8); 10] =
+    [(Size, 1), (Fit, 2), (Muddle, 3), (Tie, 4), (Value, 5), (Ceiling, 6), (Idle, 7), (Reason::Sheet, 8), (Reason::Paper, 9), (Reason::Unsure, 10)];
 
 #[test]
 fn numbers() {
