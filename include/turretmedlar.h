@@ -9,7 +9,7 @@
  *
  * Every answer starts with `number`. 0: the job is done. Any other number is the reason for which it is refused (enum tm_reason); then all other fields of
  * the answer are 0, and every lent list keeps its values. Where several reasons hold, the lowest number is given, but for tm_write_sheet, where the first met
- * decides. Each function names its reasons; no other can come from it.
+ * decides, and tm_read_symbol_bands, where 10 comes before 7. Each function names its reasons; no other can come from it.
  *
  * What the caller sees to, since no proof reaches into C:
  * - an address that goes with a length has that many readable entries (writable ones where it is not const), aligned as their type asks; with length 0 the
@@ -29,7 +29,7 @@ extern "C" {
 
 /* The version of this header and its library; README.md and the Rust package have the same. The second number counts landings (docs/landings/), each of which
  * may change what a caller sees; the third counts corrections since, which change nothing that a caller relies on. The first is 0 until a release. */
-#define TM_VERSION "0.10.0"
+#define TM_VERSION "0.11.0"
 /* The most cells of a group, and the places of a record's row. */
 #define TM_CELLS 20
 /* The most bytes of a sheet without fault; a longer one is faulty. */
@@ -37,19 +37,20 @@ extern "C" {
 /* A buffer of so many bytes has room for the text of any sheet. */
 #define TM_TEXT_BYTES 31344
 
-/* Document 01, "Why a job is sent back", and document 02's new number. */
+/* Document 01, "Why a job is sent back", and document 02's new numbers. */
 enum tm_reason {
     TM_DONE = 0,
     TM_SIZE = 1,    /* size: n is below 2 or above 20, for the group first, then for a target */
-    TM_FIT = 2,     /* fit: a target's n differs from the group's, or a lent list is too short: a push list has fewer than n - 1 bytes, a text buffer fewer than the
-                       text, a list of tm_write_sheet fewer entries than the others say */
+    TM_FIT = 2,     /* fit: a target's n differs from the group's; the two lists of bands differ in length; or a lent list is too short: a push list has fewer than
+                       n - 1 bytes, a text buffer fewer than the text, a list of tm_write_sheet fewer entries than the others say */
     TM_MUDDLE = 3,  /* muddle: a record is no permutation */
     TM_TIE = 4,     /* tie: two levels are equal */
-    TM_VALUE = 5,   /* value: a rank, place, m or symbol is outside its range */
+    TM_VALUE = 5,   /* value: a rank, place, m or symbol is outside its range, or a lowest level is above its highest */
     TM_CEILING = 6, /* ceiling: the highest level plus the job's pushes exceeds 65,535 */
     TM_IDLE = 7,    /* idle: the levels' prefix is that of none of the m symbols */
     TM_SHEET = 8,   /* sheet: a bench sheet is ill-formed, or what is to be written is on none: a count, kind, group number or k is outside its range */
-    TM_PAPER = 9    /* paper: a lent list is shorter than the sheet that is to be written */
+    TM_PAPER = 9,   /* paper: a lent list is shorter than the sheet that is to be written */
+    TM_UNSURE = 10  /* unsure: bands leave open which permutation it is, or which prefix leads */
 };
 
 /* Document 01: an order. The first n places of `cells` hold each of 1 to n once, highest charge first; the places past n hold 0, and a record that has anything
@@ -167,6 +168,23 @@ tm_pushes tm_store(uint16_t *levels, size_t n, uint64_t m, uint64_t symbol);
  * Refused: 1 size, n is not 2 to 20; 4 tie, two levels are equal; 5 value, m is 0 or above n!; 7 idle, the prefix that leads has number m or higher.
  * Unchanged: `levels`, always. */
 tm_symbol tm_read_symbol(const uint16_t *levels, size_t n, uint64_t m);
+
+/* ---- bands: of each cell a lowest and a highest level, lowest[0] and highest[0] of cell 1, in two lists; n is the length of `lowest` ----
+ * A choice takes one level from each band, from its lowest to its highest. So a band is above another in every choice where its lowest level is above the other's
+ * highest; two that share a level are tied in some choice. */
+
+/* The permutation that every choice gives, without a tie in any.
+ * Refused: 1 size, n is not 2 to 20; 2 fit, `highest_length` is not n; 5 value, a lowest level is above its highest; 10 unsure, a choice has a tie, or two choices
+ * give different permutations.
+ * Unchanged: both lists, always. */
+tm_permuted tm_read_bands(const uint16_t *lowest, size_t n, const uint16_t *highest, size_t highest_length);
+
+/* The symbol whose prefix leads in every choice: the same p cells in the same sequence, each above all cells below it. Ties further down do not matter. With
+ * m = 1, p is 0: 0 is read of any bands.
+ * Refused: 1 size, n is not 2 to 20; 2 fit, `highest_length` is not n; 5 value, a lowest level is above its highest, or m is 0 or above n!; 10 unsure, there is no
+ * such prefix; after that 7 idle, its number is m or higher.
+ * Unchanged: both lists, always. */
+tm_symbol tm_read_symbol_bands(const uint16_t *lowest, size_t n, const uint16_t *highest, size_t highest_length, uint64_t m);
 
 /* ---- the bench sheet ---- */
 

@@ -17,19 +17,20 @@ pub const SHEET_BYTES: usize = 24_627;
 /// A buffer of so many bytes has room for the text of any sheet.
 pub const TEXT_BYTES: usize = 31_344;
 
-/// Why a job is refused, by the numbers and words of documents 01 and 02. Where several hold, the lowest is given; of a sheet, the first met in its sequence.
+/// Why a job is refused, by the numbers and words of documents 01 and 02. Where several hold, the lowest is given, but Unsure before Idle; of a sheet, the first met in
+/// its sequence.
 #[repr(u8)]
 #[derive(Clone, Copy, Debug, PartialEq, Eq, PartialOrd, Ord)]
 pub enum Reason {
     /// n is below 2 or above 20, of the group or of a target.
     Size = 1,
-    /// A target's n differs from the group's, a push list has fewer than n - 1 bytes, or a text buffer is too short.
+    /// A target's n differs from the group's, the two lists of bands differ in length, a push list has fewer than n - 1 bytes, or a text buffer is too short.
     Fit = 2,
     /// A record is no permutation; on a sheet to be written, it has a name past n.
     Muddle = 3,
     /// Two levels are equal.
     Tie = 4,
-    /// A rank, place, m or symbol is outside its range.
+    /// A rank, place, m or symbol is outside its range, or a lowest level is above its highest.
     Value = 5,
     /// The highest level plus the job's pushes exceeds 65,535.
     Ceiling = 6,
@@ -39,10 +40,12 @@ pub enum Reason {
     Sheet = 8,
     /// The bytes lent are fewer than those of the sheet to be written.
     Paper = 9,
+    /// Bands leave open which permutation it is, or which prefix leads.
+    Unsure = 10,
 }
 
 /// Each reason beside its word, by number from 1.
-const REASONS: [(Reason, &str); 9] = [
+const REASONS: [(Reason, &str); 10] = [
     (Reason::Size, "size"),
     (Reason::Fit, "fit"),
     (Reason::Muddle, "muddle"),
@@ -52,6 +55,7 @@ const REASONS: [(Reason, &str); 9] = [
     (Reason::Idle, "idle"),
     (Reason::Sheet, "sheet"),
     (Reason::Paper, "paper"),
+    (Reason::Unsure, "unsure"),
 ];
 
 impl fmt::Display for Reason {
@@ -168,6 +172,21 @@ pub fn store(levels: &mut [u16], m: u64, symbol: u64) -> Result<Spent, Reason> {
 /// Refused: Size, Tie, Value, Idle.
 pub fn read_symbol(levels: &[u16], m: u64) -> Result<u64, Reason> {
     let answer = raw::read_symbol(levels, m);
+    given(answer.number, answer.symbol)
+}
+
+/// The permutation of levels of which a lowest and a highest are known, one of each for a cell: the one that every choice of levels between them gives, without a tie in
+/// any.
+/// Refused: Size, Fit, Value, Unsure.
+pub fn read_bands(lowest: &[u16], highest: &[u16]) -> Result<Permutation, Reason> {
+    let answer = raw::read_bands(lowest, highest);
+    given(answer.number, answer.permutation)
+}
+
+/// The symbol that stands in every such choice, of a code of m symbols; ties below its prefix do not matter.
+/// Refused: Size, Fit, Value, Unsure, and then Idle.
+pub fn read_symbol_bands(lowest: &[u16], highest: &[u16], m: u64) -> Result<u64, Reason> {
+    let answer = raw::read_symbol_bands(lowest, highest, m);
     given(answer.number, answer.symbol)
 }
 

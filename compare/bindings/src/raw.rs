@@ -10,7 +10,7 @@ pub struct Permutation {
     pub cells: [u8; 20],
 }
 
-/// What [`push`], [`unrank`] and [`read`] answer.
+/// What [`push`], [`unrank`], [`read`] and [`read_bands`] answer.
 #[repr(C)]
 #[derive(Clone, Copy, Debug, PartialEq, Eq)]
 pub struct Permuted {
@@ -51,7 +51,7 @@ pub struct Pushes {
     pub charge: u32,
 }
 
-/// What [`read_symbol`] answers.
+/// What [`read_symbol`] and [`read_symbol_bands`] answer.
 #[repr(C)]
 #[derive(Clone, Copy, Debug, PartialEq, Eq)]
 pub struct Symbol {
@@ -102,6 +102,8 @@ mod library {
         pub fn tm_rewrite(levels: *mut u16, n: usize, target: Permutation, list: *mut u8, room: usize) -> Pushes;
         pub fn tm_store(levels: *mut u16, n: usize, m: u64, symbol: u64) -> Pushes;
         pub fn tm_read_symbol(levels: *const u16, n: usize, m: u64) -> Symbol;
+        pub fn tm_read_bands(lowest: *const u16, n: usize, highest: *const u16, highest_length: usize) -> Permuted;
+        pub fn tm_read_symbol_bands(lowest: *const u16, n: usize, highest: *const u16, highest_length: usize, m: u64) -> Symbol;
         pub fn tm_bench(sheet: *const u8, length: usize, text: *mut u8, room: usize) -> Printed;
         pub fn tm_write_sheet(
             sizes: *const usize,
@@ -166,6 +168,14 @@ pub fn store(levels: &mut [u16], m: u64, symbol: u64) -> Pushes {
 
 pub fn read_symbol(levels: &[u16], m: u64) -> Symbol {
     unsafe { library::tm_read_symbol(levels.as_ptr(), levels.len(), m) }
+}
+
+pub fn read_bands(lowest: &[u16], highest: &[u16]) -> Permuted {
+    unsafe { library::tm_read_bands(lowest.as_ptr(), lowest.len(), highest.as_ptr(), highest.len()) }
+}
+
+pub fn read_symbol_bands(lowest: &[u16], highest: &[u16], m: u64) -> Symbol {
+    unsafe { library::tm_read_symbol_bands(lowest.as_ptr(), lowest.len(), highest.as_ptr(), highest.len(), m) }
 }
 
 pub fn bench(sheet: &[u8], text: &mut [u8]) -> Printed {
