@@ -13,6 +13,11 @@ pub fn pairs(one: usize, other: usize) -> impl Iterator<Item = (usize, usize)> {
     (0..one).flat_map(move |first| (0..other).map(move |second| (first, second)))
 }
 
+/// All lists of n of the values.
+pub fn lists<T: Copy>(values: &[T], n: usize) -> Vec<Vec<T>> {
+    (0..n).fold(vec![vec![]], |lists: Vec<Vec<T>>, _| lists.iter().flat_map(|list| values.iter().map(|&value| [&list[..], &[value]].concat())).collect())
+}
+
 pub fn factorial(n: usize) -> u64 {
     falling(n, n)
 }

@@ -5,17 +5,20 @@ use model::Spent;
 use std::fmt::Debug;
 use turretmedlar::{raw, Permutation, Reason};
 
+/// For a job that takes one list.
+const NONE: &[u8] = &[];
+
 /// The comparisons of one test, counted by the reason's number.
 #[derive(Default)]
 pub struct Cross {
-    cases: [u64; 10],
+    cases: [u64; 11],
 }
 
 impl Cross {
     /// Ends a test: prints its number of cases, and holds that they met these numbers (0 is done) and no others.
     pub fn met(self, numbers: &[usize]) {
         let test = std::thread::current().name().unwrap_or_default().to_string();
-        let met: Vec<usize> = (0..10).filter(|&number| self.cases[number] > 0).collect();
+        let met: Vec<usize> = (0..self.cases.len()).filter(|&number| self.cases[number] > 0).collect();
         let each: Vec<String> = met.iter().map(|&number| format!("{number}: {}", self.cases[number])).collect();
         println!("{test}: {} cases, by number {}", self.cases.iter().sum::<u64>(), each.join(", "));
         assert_eq!(met, numbers, "the numbers met in {test}");
@@ -42,13 +45,13 @@ impl Cross {
     }
 
     /// Lends two lists to a job, first guarded, so that a write outside is told with its case, then exact. Gives the first list where the job is done.
-    fn lend<A: Entry, T: Default + PartialEq + Debug>(
+    fn lend<A: Entry, B: Entry, T: Default + PartialEq + Debug>(
         &mut self,
         case: &dyn Debug,
-        (first, second): (&[A], &[u8]),
-        model: impl Fn(&mut [A], &mut [u8]) -> Result<T, model::Reason>,
-        raw: impl Fn(&mut [A], &mut [u8]) -> (u8, T),
-        safe: impl Fn(&mut [A], &mut [u8]) -> Result<T, Reason>,
+        (first, second): (&[A], &[B]),
+        model: impl Fn(&mut [A], &mut [B]) -> Result<T, model::Reason>,
+        raw: impl Fn(&mut [A], &mut [B]) -> (u8, T),
+        safe: impl Fn(&mut [A], &mut [B]) -> Result<T, Reason>,
     ) -> Option<Vec<A>> {
         let (mut expected_first, mut expected_second) = (first.to_vec(), second.to_vec());
         let expected = model(&mut expected_first, &mut expected_second);
@@ -114,7 +117,7 @@ impl Cross {
     pub fn read(&mut self, levels: &[u16]) {
         self.lend(
             &("read", levels),
-            (levels, &[]),
+            (levels, NONE),
             |levels, _| model::read(levels).map(of_model),
             |levels, _| permuted(raw::read(levels)),
             |levels, _| turretmedlar::read(levels).map(of_library),
@@ -124,7 +127,7 @@ impl Cross {
     pub fn push_level(&mut self, levels: &[u16], place: usize) -> Option<Vec<u16>> {
         self.lend_to_push(
             &("push_level", levels, place),
-            (levels, &[]),
+            (levels, NONE),
             |levels, _| model::push_level(levels, place),
             |levels, _| raw::push_level(levels, place),
             |levels, _| turretmedlar::push_level(levels, place),
@@ -134,7 +137,7 @@ impl Cross {
     pub fn count_up(&mut self, levels: &[u16], k: u32) -> Option<Vec<u16>> {
         self.lend_to_push(
             &("count_up", levels, k),
-            (levels, &[]),
+            (levels, NONE),
             |levels, _| model::count_up(levels, k),
             |levels, _| raw::count_up(levels, k),
             |levels, _| turretmedlar::count_up(levels, k),
@@ -154,7 +157,7 @@ impl Cross {
     pub fn store(&mut self, levels: &[u16], m: u64, symbol: u64) -> Option<Vec<u16>> {
         self.lend_to_push(
             &("store", levels, m, symbol),
-            (levels, &[]),
+            (levels, NONE),
             |levels, _| model::store(levels, m, symbol),
             |levels, _| raw::store(levels, m, symbol),
             |levels, _| turretmedlar::store(levels, m, symbol),
@@ -164,10 +167,30 @@ impl Cross {
     pub fn read_symbol(&mut self, levels: &[u16], m: u64) {
         self.lend(
             &("read_symbol", levels, m),
-            (levels, &[]),
+            (levels, NONE),
             |levels, _| model::read_symbol(levels, m),
             |levels, _| symbol(raw::read_symbol(levels, m)),
             |levels, _| turretmedlar::read_symbol(levels, m),
+        );
+    }
+
+    pub fn read_bands(&mut self, lowest: &[u16], highest: &[u16]) {
+        self.lend(
+            &("read_bands", lowest, highest),
+            (lowest, highest),
+            |lowest, highest| model::read_bands(lowest, highest).map(of_model),
+            |lowest, highest| permuted(raw::read_bands(lowest, highest)),
+            |lowest, highest| turretmedlar::read_bands(lowest, highest).map(of_library),
+        );
+    }
+
+    pub fn read_symbol_bands(&mut self, lowest: &[u16], highest: &[u16], m: u64) {
+        self.lend(
+            &("read_symbol_bands", lowest, highest, m),
+            (lowest, highest),
+            |lowest, highest| model::read_symbol_bands(lowest, highest, m),
+            |lowest, highest| symbol(raw::read_symbol_bands(lowest, highest, m)),
+            |lowest, highest| turretmedlar::read_symbol_bands(lowest, highest, m),
         );
     }
 

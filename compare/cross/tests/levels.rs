@@ -1,5 +1,5 @@
 //! Jobs on levels: read, push and count up, and lists of wrong lengths and with ties in every job that takes levels.
-use cross::cases::{factorial, permutations, places, CEILING};
+use cross::cases::{factorial, lists, permutations, places, CEILING};
 use cross::{Cross, Random};
 use turretmedlar::Spent;
 
@@ -21,11 +21,6 @@ fn push_at_every_place(cross: &mut Cross, levels: &[u16]) {
     for place in places(levels.len()) {
         cross.push_level(levels, place);
     }
-}
-
-/// All lists of n of the values.
-fn lists(values: &[u16], n: usize) -> Vec<Vec<u16>> {
-    (0..n).fold(vec![vec![]], |lists: Vec<Vec<u16>>, _| lists.iter().flat_map(|list| values.iter().map(|&value| [&list[..], &[value]].concat())).collect())
 }
 
 #[test]
