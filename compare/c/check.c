@@ -16,7 +16,7 @@ _Static_assert(sizeof(tm_printed) == 16 && offsetof(tm_printed, length) == 8, "t
 _Static_assert(sizeof(tm_written) == 16 && offsetof(tm_written, length) == 8, "tm_written");
 
 /* The constants of compare/bindings/src/lib.rs. */
-_Static_assert(TM_CELLS == 20 && TM_SHEET_BYTES == 24627 && TM_TEXT_BYTES == 31344 && TM_SHEET == 8 && TM_PAPER == 9, "constants");
+_Static_assert(TM_CELLS == 20 && TM_SHEET_BYTES == 24627 && TM_TEXT_BYTES == 31344 && TM_SHEET == 8 && TM_PAPER == 9 && TM_UNSURE == 10, "constants");
 
 static int passed, failed;
 
@@ -132,6 +132,31 @@ static void check_charge(void) {
     CHECK(spent(tm_store(again, 3, 6, 3), 2, 65533 + 65535) && memcmp(again, all_high, sizeof again) == 0);
 }
 
+static int symbol_is(tm_symbol answer, uint8_t number, uint64_t symbol) {
+    return answer.number == number && answer.symbol == symbol;
+}
+
+/* Document 02, request 4: bands of [3,1,2,4]. In `wide` those of cells 2 and 4 touch, in `wider` those of cells 1 and 2 too; `under` is below a lowest level. */
+static void check_bands(void) {
+    const tm_permutation expected = {4, {3, 1, 2, 4}};
+    uint16_t lowest[4] = {30, 20, 65535, 0}, highest[5] = {35, 25, 65535, 19, 7}, wide[4] = {35, 25, 65535, 20}, wider[4] = {35, 30, 65535, 20};
+    const uint16_t lowest_before[4] = {30, 20, 65535, 0}, highest_before[5] = {35, 25, 65535, 19, 7}, under[4] = {35, 19, 65535, 19};
+    tm_permuted answer = tm_read_bands(lowest, 4, highest, 4);
+    CHECK(answer.number == TM_DONE && same(answer.permutation, expected));
+    CHECK(refused(tm_read_bands(lowest, 4, wide, 4), TM_UNSURE) && refused(tm_read_bands(lowest, 4, under, 4), TM_VALUE));
+    CHECK(refused(tm_read_bands(lowest, 4, highest, 3), TM_FIT) && refused(tm_read_bands(lowest, 4, highest, 5), TM_FIT));
+    CHECK(refused(tm_read_bands(lowest, 1, highest, 1), TM_SIZE) && refused(tm_read_bands(lowest, 1, highest, 5), TM_SIZE));
+    CHECK(symbol_is(tm_read_symbol_bands(lowest, 4, highest, 4, 24), TM_DONE, 12) && symbol_is(tm_read_symbol_bands(lowest, 4, wide, 4, 24), TM_UNSURE, 0));
+    CHECK(symbol_is(tm_read_symbol_bands(lowest, 4, wide, 4, 12), TM_DONE, 6) && symbol_is(tm_read_symbol_bands(lowest, 4, wider, 4, 12), TM_UNSURE, 0));
+    /* prefix [3,1] is number 6: idle of six symbols where it leads, unsure where it may not */
+    CHECK(symbol_is(tm_read_symbol_bands(lowest, 4, wide, 4, 6), TM_IDLE, 0) && symbol_is(tm_read_symbol_bands(lowest, 4, wider, 4, 6), TM_UNSURE, 0));
+    CHECK(symbol_is(tm_read_symbol_bands(lowest, 4, wider, 4, 4), TM_DONE, 2) && symbol_is(tm_read_symbol_bands(lowest, 4, wider, 4, 1), TM_DONE, 0));
+    CHECK(symbol_is(tm_read_symbol_bands(lowest, 4, under, 4, 12), TM_VALUE, 0) && symbol_is(tm_read_symbol_bands(lowest, 4, highest, 4, 0), TM_VALUE, 0));
+    CHECK(symbol_is(tm_read_symbol_bands(lowest, 4, wider, 4, 25), TM_VALUE, 0) && symbol_is(tm_read_symbol_bands(lowest, 4, highest, 3, 0), TM_FIT, 0));
+    CHECK(symbol_is(tm_read_symbol_bands(lowest, 1, highest, 5, 0), TM_SIZE, 0));
+    CHECK(memcmp(lowest, lowest_before, sizeof lowest) == 0 && memcmp(highest, highest_before, sizeof highest) == 0);
+}
+
 /* Document 01's bench sheet. */
 static const uint8_t sheet[] = {1, 3, 3, 0, 1, 0, 2, 0, 3, 0, 1, 0, 4, 0, 0, 0, 2, 0, 3, 1, 2, 3, 0, 3, 0, 0, 0, 0, 0, 0, 0, 3, 0, 0, 0, 0, 0, 0, 0};
 
@@ -223,6 +248,8 @@ static void check_null(void) {
     CHECK(refused(tm_read(NULL, 0), TM_SIZE) && sent_back(tm_push_level(NULL, 0, 2), TM_SIZE) && sent_back(tm_count_up(NULL, 0, 1), TM_SIZE));
     CHECK(sent_back(tm_rewrite(NULL, 0, target, NULL, 0), TM_SIZE) && sent_back(tm_rewrite(levels, 2, target, NULL, 0), TM_FIT));
     CHECK(sent_back(tm_store(NULL, 0, 1, 0), TM_SIZE) && tm_read_symbol(NULL, 0, 1).number == TM_SIZE);
+    CHECK(refused(tm_read_bands(NULL, 0, NULL, 0), TM_SIZE) && refused(tm_read_bands(levels, 2, NULL, 0), TM_FIT));
+    CHECK(tm_read_symbol_bands(NULL, 0, levels, 2, 1).number == TM_SIZE && tm_read_symbol_bands(levels, 2, NULL, 0, 1).number == TM_FIT);
     CHECK(tm_bench(NULL, 0, NULL, 0).number == TM_FIT);
     CHECK(tm_bench(NULL, 0, text, sizeof text).length == 4 && memcmp(text, "s 8\n", 4) == 0);
     const held *h = &paper;
@@ -238,6 +265,7 @@ int main(void) {
     check_rewriting();
     check_symbols();
     check_charge();
+    check_bands();
     check_sheet();
     check_writing();
     check_null();
