@@ -1,6 +1,6 @@
 //! The list of benchmarks. No input is refused: `unwrap` holds this for both sides.
 use crate::pair::{pair, Pair};
-use cross::cases::{factorial, record};
+use cross::cases::{factorial, record, CEILING};
 use cross::{held, spent, twin, Random};
 use std::path::Path;
 
@@ -33,7 +33,7 @@ const WRITTEN: [&str; 3] = ["paper", "longest", "thousand-stores"];
 type OfSize = fn(usize) -> Box<dyn Pair>;
 
 pub fn benchmarks() -> Vec<Benchmark> {
-    let jobs: [(&str, OfSize); 7] = [
+    let jobs: [(&str, OfSize); 9] = [
         ("rank", rank),
         ("unrank", unrank),
         ("read", read),
@@ -41,6 +41,8 @@ pub fn benchmarks() -> Vec<Benchmark> {
         ("store", store),
         ("store, standing", store_standing),
         ("read_symbol", read_symbol),
+        ("read_bands", read_bands),
+        ("read_symbol_bands", read_symbol_bands),
     ];
     let mut list = vec![];
     for (name, job) in jobs {
@@ -111,6 +113,34 @@ fn read_symbol(n: usize) -> Box<dyn Pair> {
         inputs(INPUTS, |random| levels(random, n)),
         move |levels, symbol| *symbol = turretmedlar::read_symbol(&levels[..n], m).unwrap(),
         move |levels, symbol| *symbol = model::read_symbol(&levels[..n], m).unwrap(),
+    )
+}
+
+/// Bands of n cells, in two rows with 0 past n: from the levels that `read` has, up to nine levels more, below the next of them.
+pub fn bands(random: &mut Random, n: usize) -> [[u16; 20]; 2] {
+    let lowest = levels(random, n);
+    let mut highest = lowest;
+    for level in &mut highest[..n] {
+        let next = lowest.iter().copied().filter(|other| other > level).min().unwrap_or(CEILING);
+        *level = (*level + 9).min(next - 1);
+    }
+    [lowest, highest]
+}
+
+fn read_bands(n: usize) -> Box<dyn Pair> {
+    pair(
+        inputs(INPUTS, |random| bands(random, n)),
+        move |[lowest, highest], cells| *cells = turretmedlar::read_bands(&lowest[..n], &highest[..n]).unwrap().cells,
+        move |[lowest, highest], cells| *cells = model::read_bands(&lowest[..n], &highest[..n]).unwrap().cells,
+    )
+}
+
+fn read_symbol_bands(n: usize) -> Box<dyn Pair> {
+    let m = factorial(n);
+    pair(
+        inputs(INPUTS, |random| bands(random, n)),
+        move |[lowest, highest], symbol| *symbol = turretmedlar::read_symbol_bands(&lowest[..n], &highest[..n], m).unwrap(),
+        move |[lowest, highest], symbol| *symbol = model::read_symbol_bands(&lowest[..n], &highest[..n], m).unwrap(),
     )
 }
 

@@ -1,5 +1,5 @@
 //! The least stack on which some jobs run, by a thread of a process of its own: a stack that is too small ends it.
-use crate::benchmarks::{levels, sheet};
+use crate::benchmarks::{bands, levels, sheet};
 use cross::cases::{factorial, record};
 use cross::{held, Random};
 use std::process::{Command, Stdio};
@@ -10,12 +10,13 @@ pub const STACK: &str = "stack";
 
 const STEP: usize = 16;
 
-const JOBS: [(&str, fn()); 9] = [
+const JOBS: [(&str, fn()); 10] = [
     ("rank", || done(turretmedlar::rank(permutation()))),
     ("unrank", || done(turretmedlar::unrank(20, factorial(20) - 1))),
     ("count_up by 60,000", || done(turretmedlar::count_up(&mut low(), 60_000))),
     ("rewrite", || done(turretmedlar::rewrite(&mut low(), permutation(), &mut [0; 20]))),
     ("store", || done(turretmedlar::store(&mut low(), factorial(20), factorial(20) - 1))),
+    ("read_symbol_bands", || done(turretmedlar::read_symbol_bands(&sure()[0], &sure()[1], factorial(20)))),
     ("bench, 1,000 rewrites", || bench("longest")),
     ("bench, 1,000 stores", || bench("thousand-stores")),
     ("write_sheet, 1,000 rewrites", || write("longest")),
@@ -28,6 +29,10 @@ fn permutation() -> turretmedlar::Permutation {
 
 fn low() -> [u16; 20] {
     levels(&mut Random::seeded(0), 20)
+}
+
+fn sure() -> [[u16; 20]; 2] {
+    bands(&mut Random::seeded(0), 20)
 }
 
 /// The sheet and the text are not on the stack.
