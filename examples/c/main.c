@@ -27,5 +27,10 @@ int main(void) {
     show("store 6 of 12", tm_store(setting, 4, 12, 6), setting);
     tm_symbol read = tm_read_symbol(setting, 4, 12);
     printf("setting: number %u, symbol %" PRIu64 "\n", read.number, read.symbol);
+
+    /* The same setting by bands, a lowest and a highest level for each cell. Cells 2 and 4 may have equal ones, further down than the setting goes. */
+    const uint16_t lowest[4] = {3, 1, 4, 0}, highest[4] = {3, 2, 5, 1};
+    read = tm_read_symbol_bands(lowest, 4, highest, 4, 12);
+    printf("setting by bands: number %u, symbol %" PRIu64 "\n", read.number, read.symbol);
     return 0;
 }

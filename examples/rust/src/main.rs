@@ -1,5 +1,5 @@
 //! Counts run hours on one group of four cells and keeps a setting on another.
-use turretmedlar::{count_up, rank, read, read_symbol, store, Reason, Spent};
+use turretmedlar::{count_up, rank, read, read_symbol, read_symbol_bands, store, Reason, Spent};
 
 fn main() -> Result<(), Reason> {
     // Levels by cell name. Cell 1 has the most charge, then cells 4, 2 and 3: the permutation of rank 0.
@@ -18,5 +18,8 @@ fn main() -> Result<(), Reason> {
     let Spent { pushes, charge } = store(&mut setting, 12, 6)?;
     println!("store 6 of 12: pushes {pushes}, charge {charge}, levels {setting:?}");
     println!("setting: symbol {}", read_symbol(&setting, 12)?);
+
+    // The same setting by bands, a lowest and a highest level for each cell. Cells 2 and 4 may have equal ones, further down than the setting goes.
+    println!("setting by bands: symbol {}", read_symbol_bands(&[3, 1, 4, 0], &[3, 2, 5, 1], 12)?);
     Ok(())
 }
