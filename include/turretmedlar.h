@@ -41,8 +41,8 @@ extern "C" {
 enum tm_reason {
     TM_DONE = 0,
     TM_SIZE = 1,    /* size: n is below 2 or above 20, for the group first, then for a target */
-    TM_FIT = 2,     /* fit: a target's n differs from the group's; the two lists of bands differ in length; or a lent list is too short: a push list has fewer than
-                       n - 1 bytes, a text buffer fewer than the text, a list of tm_write_sheet fewer entries than the others say */
+    TM_FIT = 2,     /* fit: a target's n differs from the group's; the two lists of bands differ in length; or a lent list is too short: a push list has fewer
+                       than n - 1 bytes, a text buffer fewer than the text, a list of tm_write_sheet fewer entries than the others say */
     TM_MUDDLE = 3,  /* muddle: a record is no permutation */
     TM_TIE = 4,     /* tie: two levels are equal */
     TM_VALUE = 5,   /* value: a rank, place, m or symbol is outside its range, or a lowest level is above its highest */
@@ -170,19 +170,19 @@ tm_pushes tm_store(uint16_t *levels, size_t n, uint64_t m, uint64_t symbol);
 tm_symbol tm_read_symbol(const uint16_t *levels, size_t n, uint64_t m);
 
 /* ---- bands: of each cell a lowest and a highest level, lowest[0] and highest[0] of cell 1, in two lists; n is the length of `lowest` ----
- * A choice takes one level from each band, from its lowest to its highest. So a band is above another in every choice where its lowest level is above the other's
- * highest; two that share a level are tied in some choice. */
+ * A choice takes one level from each band, its ends included. So a cell is above another in every choice exactly when its lowest level is above the other's
+ * highest. */
 
 /* The permutation that every choice gives, without a tie in any.
- * Refused: 1 size, n is not 2 to 20; 2 fit, `highest_length` is not n; 5 value, a lowest level is above its highest; 10 unsure, a choice has a tie, or two choices
- * give different permutations.
+ * Refused: 1 size, n is not 2 to 20; 2 fit, `highest_length` is not n; 5 value, a lowest level is above its highest; 10 unsure, a choice has a tie, or two
+ * choices give different permutations.
  * Unchanged: both lists, always. */
 tm_permuted tm_read_bands(const uint16_t *lowest, size_t n, const uint16_t *highest, size_t highest_length);
 
 /* The symbol whose prefix leads in every choice: the same p cells in the same sequence, each above all cells below it. Ties further down do not matter. With
  * m = 1, p is 0: 0 is read of any bands.
- * Refused: 1 size, n is not 2 to 20; 2 fit, `highest_length` is not n; 5 value, a lowest level is above its highest, or m is 0 or above n!; 10 unsure, there is no
- * such prefix; after that 7 idle, its number is m or higher.
+ * Refused: 1 size, n is not 2 to 20; 2 fit, `highest_length` is not n; 5 value, a lowest level is above its highest, or m is 0 or above n!; 10 unsure, there is
+ * no such prefix; after that 7 idle, its number is m or higher.
  * Unchanged: both lists, always. */
 tm_symbol tm_read_symbol_bands(const uint16_t *lowest, size_t n, const uint16_t *highest, size_t highest_length, uint64_t m);
 

@@ -17,8 +17,8 @@ pub const SHEET_BYTES: usize = 24_627;
 /// A buffer of so many bytes has room for the text of any sheet.
 pub const TEXT_BYTES: usize = 31_344;
 
-/// Why a job is refused, by the numbers and words of documents 01 and 02. Where several hold, the lowest is given, but Unsure before Idle; of a sheet, the first met in
-/// its sequence.
+/// Why a job is refused, by the numbers and words of documents 01 and 02. Where several hold, the lowest is given, but Unsure before Idle; of a sheet, the first
+/// met in its sequence.
 #[repr(u8)]
 #[derive(Clone, Copy, Debug, PartialEq, Eq, PartialOrd, Ord)]
 pub enum Reason {
@@ -175,7 +175,7 @@ pub fn read_symbol(levels: &[u16], m: u64) -> Result<u64, Reason> {
     given(answer.number, answer.symbol)
 }
 
-/// The permutation of levels of which a lowest and a highest are known, one of each for a cell: the one that every choice of levels between them gives, without a tie in
+/// The permutation of levels of which a lowest and a highest are known, by cell: the one that every choice of levels from these bands gives, without a tie in
 /// any.
 /// Refused: Size, Fit, Value, Unsure.
 pub fn read_bands(lowest: &[u16], highest: &[u16]) -> Result<Permutation, Reason> {

@@ -44,7 +44,7 @@ fn touch(random: &mut Random, names: &[u8], (lowest, highest): &mut Bands, upper
     highest[lower] = highest[lower].max(shared);
 }
 
-/// Codes with prefixes of every length, with m from just above the shorter prefixes' number to all of the longer's: any of them, the fewest symbols and the most.
+/// Codes with prefixes of each length: the fewest symbols that ask for it, the most that it has, and some number between.
 fn codes(random: &mut Random, n: usize) -> Vec<u64> {
     let of_length = |p: usize| {
         let (fewest, most) = (falling(n, p - 1) + 1, falling(n, p));

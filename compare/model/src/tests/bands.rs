@@ -64,7 +64,7 @@ fn check_by_choices(n: usize, most: u16) -> usize {
     orders
 }
 
-/// Sure bands of n cells lie above one another in any of n! orders, and there are as many of an order as there are ways to take 2n out of n more than there are levels:
+/// Sure bands lie one above another, in any of n! orders. There are as many of an order as there are ways to take 2n out of n more than there are levels:
 /// l1 <= h1 < l2 <= h2 < .. is l1 < h1 + 1 < l2 + 1 < h2 + 2 < ..
 #[test]
 fn held_to_every_choice() {
@@ -75,8 +75,8 @@ fn held_to_every_choice() {
     }
 }
 
-/// Without a tie they are levels. With one the order is unsure, and so is a symbol with one of the tied cells, or more, among its first p; any other is read however the
-/// tie is broken.
+/// Without a tie they are levels. With one the order is unsure, and so is a symbol with a tied cell among its first p; any other is what is read however the tie
+/// is broken.
 #[test]
 fn bands_of_one_level() {
     for levels in (2..=4).flat_map(|n| choices(&vec![0; n], &vec![4; n])) {
@@ -141,8 +141,8 @@ fn ends_of_the_range() {
     }
 }
 
-/// "10 unsure, when the condition fails; for a symbol it comes before idle." Cell 3 leads; then cell 2 does, or the bands of cells 1 and 2 touch. Of three cells two
-/// symbols and three have p = 1, four to six p = 2: prefix [3] is number 2, [3,1] and [3,2] are 4 and 5, so that of four symbols each choice is idle.
+/// "10 unsure, when the condition fails; for a symbol it comes before idle." Cell 3 leads; then cell 2 does, or the bands of cells 1 and 2 touch. On three cells
+/// two and three symbols have p = 1, four to six p = 2. Prefix [3] is number 2, [3,1] and [3,2] are 4 and 5, so that of four symbols every choice is idle.
 #[test]
 fn unsure_before_idle() {
     let table =
