@@ -4,7 +4,7 @@
 - a path, whole or its last parts: `docs/map/01.md`, `speed/run`; below `target/`, which is not kept, by the crate that the file is named after: `target/log/bench.say`
 - `specs/F`, `proofs/F` of crates/theory; `crate: F` (its specs/), `crate: specs/F`, `crate: proofs/F`; after these `: name`, a definition or theorem of that file
 - `Record.field`; `crate::file`, `crate::file::item`; `tm_name`, `TM_NAME` of the header; `rt check crate`
-- a word alone: a definition, theorem, field, function, struct, constant, edit, crate or file name, wherever it stands; after the word "edit" an edit
+- a word alone: a definition, theorem, field, function, clause of a contract, struct, constant, edit, crate or file name, wherever it stands; after the word "edit" an edit
 - in a list after one of these, joined by commas, "and", "or", "with": of the same file, folder or record, as in `specs/Run: steps`, `pushCount`; `Demand3.gap`, `.jumps`
 
 Each edit's name stands once in the repository, and in a row of a file in docs/map/. A link `](..)` is relative to the folder of its document.
@@ -28,7 +28,7 @@ FILE = re.compile(r"(?:(\w+): )?(?:(specs|proofs)/)?([A-Z]\w*)(?:: (\S.*))?")
 RECORD = re.compile(r"(?:pub )?(?:record|data) ([^\s:(){}]+)")
 SIGNATURE = re.compile(r"(?:(?:pub|abbrev|unfoldable) )*([^\s:(){}=]+(?: [^\s:(){}=]+)*)(?: [({][^(){}]*[)}])* :(?:\s|$)")
 PRINTED = re.compile(r"fn \S+: proved$|logic=proved ")
-ITEM = re.compile(r"\b(?:fn|struct|enum|const) (\w+)")
+ITEM = re.compile(r"\b(?:fn|ensures|struct|enum|const) (\w+)")
 
 
 def declared(text):

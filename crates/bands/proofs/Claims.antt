@@ -1,38 +1,36 @@
 -- What is claimed of bands beside the contracts. Assumes nothing.
-use mathlib.Core.Path.{_≡_, refl, sym, ap, _∙_}
+use mathlib.Core.Path.{_≡_, refl, sym, _∙_}
 use mathlib.Core.Bool.{true, false, false≢true}
-use mathlib.Core.List.{List, []}
-use Prim.Native.Nat.{ℕ, suc, _-_, _≤_, _<_}
+use mathlib.Core.List.{List}
+use Prim.Native.Nat.{ℕ, suc, _-_, _<_}
 use native.Mathlib.Omega.{arith}
 use lib.Dec.{ltb}
 use lib.ListN.{length, getD, take, drop}
 use lib.Seq.{drop-cons}
 use Rattle.theory.specs.Reasons.{sized}
 use Rattle.theory.specs.Lists.{member}
-use Rattle.theory.specs.Factorial.{factorial}
 use Rattle.theory.specs.Levels.{level, tied, permutationOf, readNumber}
 use Rattle.theory.specs.Prefix.{prefixes, prefixAt, prefixLength, symbolPrefix, symbolOf}
 use Rattle.theory.proofs.Cases.{by-test, by-name}
 use Rattle.theory.proofs.Factorials.{factorial-pos}
 use Rattle.theory.proofs.Members.{member-later}
-use Rattle.theory.proofs.Refusal.{orElse-only, test-only, size-range, Readable, read-done}
-use Rattle.theory.proofs.Sorting.{permutationOf-permutation, permutationOf-length, reads-permutationOf}
+use Rattle.theory.proofs.Refusal.{orElse-only, test-only, size-range, read-done}
+use Rattle.theory.proofs.Sorting.{permutationOf-length, reads-permutationOf}
 use Rattle.charge.specs.Answers.{readAnswer}
 use Rattle.symbols.specs.Answers.{coded, symbolAnswer, symbolNumber}
-use Rattle.symbols.specs.Reading.{ledAnswer}
-use Rattle.symbols.proofs.Symbols as symbols
-use Rattle.symbols.proofs.Symbols.{code-done, code-range, led-done}
+use Rattle.symbols.specs.ByCode.{ledAnswer}
+use Rattle.symbols.proofs.Symbols.{code-range, led-done, symbol-led}
 use Rattle.bands.specs.Bands.{Bands, Choice, SureOrder, SureLead}
 use Rattle.bands.specs.LeadTest.{leadTest}
 use Rattle.bands.specs.Answers.{Banded, BandedCode, bandsNumber, sureNumber, sureAnswer, sureSymbolNumber, sureSymbolAnswer}
-use Rattle.bands.specs.Claims.{Reading, Touches, OneLevel}
+use Rattle.bands.specs.Claims.{BandReading, Touches, OneLevel}
 use Rattle.bands.proofs.Sinking.{sunk}
 use Rattle.bands.proofs.Above.{Above, falls-above}
 use Rattle.bands.proofs.Leading.{leads-first}
 use Rattle.bands.proofs.Sure.{above-lead, lead-above, above-order, order-same, order-above, tested-above, above-tested}
 use Rattle.bands.proofs.Judging.{banded-done, bands-only}
 use Rattle.bands.proofs.Orders.{sure-order, unsure-order}
-use Rattle.bands.proofs.Symbols.{codes, short, sure-led, number-of, number-led, symbol-unsure, symbol-led, unsure-symbol}
+use Rattle.bands.proofs.Symbols.{codes, short, sure-led, number-of, number-led, sure-symbol-unsure, sure-symbol-led, unsure-symbol}
 
 -- ---- "tie doesn't arise here"
 module _ (low high : List ℕ) where
@@ -107,8 +105,8 @@ module _ {low high : List ℕ} (b : Bands low high) where
       let r = code-range (length low) m (rw v) in
       let c : BandedCode low high m = record { banded = t; one = r .0; most = r .1 } in
       by-test (leadTest low high (prefixLength (length low) m) (permutationOf low))
-      (λ e. sym (symbols.symbol-led L m (readable t k u) (rw (k .long, v))) ∙ same-symbol c e L k ∙ symbol-led c e)
-      (λ e. absurd (sure (sym (symbol-unsure c e)))))
+      (λ e. sym (symbol-led L m (readable t k u) (rw (k .long, v))) ∙ same-symbol c e L k ∙ sure-symbol-led c e)
+      (λ e. absurd (sure (sym (sure-symbol-unsure c e)))))
       (λ v. codeless m t v k u))
       (λ s. sizeless-symbol s k m)
 
@@ -132,9 +130,9 @@ module _ {low high : List ℕ} (b : Banded low high) where
 
   one-symbol : sureSymbolAnswer low high 1 ≡ record { number = 0; symbol = 0 }
   unfolding leadTest
-  one-symbol = sym (led-done (length low) 1 (permutationOf low) (sym zero-read) (omega arith) ∙ symbol-led only (rw none-lead))
+  one-symbol = sym (led-done (length low) 1 (permutationOf low) (sym zero-read) (omega arith) ∙ sure-symbol-led only (rw none-lead))
 
-pub reading-bands : (low high : List ℕ) → Reading low high
+pub reading-bands : (low high : List ℕ) → BandReading low high
 reading-bands low high = record {
   order = every-order;
   symbol = every-symbol;
@@ -186,7 +184,7 @@ module _ (L : List ℕ) where
       (λ e.
       let next : suc (t .place - 1) ≡ t .place = omega (arith, t .first .0) in
       absurd (omega (arith, t .equal, tested-above own p (short c) e (t .place - 1) (t .other) (omega (arith, t .first)) (rw next (t .after)))))
-      (λ e. sym (symbol-unsure c e))
+      (λ e. sym (sure-symbol-unsure c e))
 
   untouched : (m : ℕ) → (Touches L (prefixLength (length L) m) → ⊥) → sureSymbolNumber L L m ≡ 10 → ⊥
   untouched m none z =

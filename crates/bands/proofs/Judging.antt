@@ -10,7 +10,7 @@ use lib.Dec.{eqb, leb}
 use lib.ListN.{length, getD, drop, drop-of-length-le}
 use lib.Seq.{drop-cons}
 use Rattle.theory.specs.Reasons.{done, fit, value, sized}
-use Rattle.theory.specs.Refusal.{orElse, sizeOf}
+use Rattle.theory.specs.Refusal.{sizeOf}
 use Rattle.theory.proofs.Refusal.{orElse-done, orElse-only, tested, test-only, size-range, size-done}
 use Rattle.bands.specs.Answers.{noneAbove, bandsNumber, Banded}
 

@@ -1,8 +1,8 @@
 -- The permutation of bands: what each way out answers, and that it is given exactly when it is sure. Assumes nothing.
-use mathlib.Core.Path.{_≡_, refl, sym, ap, _∙_}
+use mathlib.Core.Path.{_≡_, sym, ap, _∙_}
 use mathlib.Core.Bool.{true, false, false≢true}
 use mathlib.Core.List.{List, []}
-use Prim.Native.Nat.{ℕ, _-_, _≤_}
+use Prim.Native.Nat.{ℕ, _-_}
 use native.Mathlib.Omega.{arith}
 use lib.ListN.{length}
 use Rattle.theory.specs.Reasons.{unsure}
@@ -11,7 +11,7 @@ use Rattle.theory.proofs.Cases.{by-test}
 use Rattle.theory.proofs.Refusal.{refused, answered, orElse-done, orElse-refused, orElse-past, tested, test-failed}
 use Rattle.theory.proofs.Sorting.{permutationOf-permutation}
 use Rattle.permutation.specs.Records.{listOf, recordOf}
-use Rattle.permutation.specs.Answers.{permuted, noPermutation}
+use Rattle.permutation.specs.Answers.{noPermutation}
 use Rattle.permutation.specs.declared.answers.Permutation.{Permutation}
 use Rattle.permutation.specs.declared.answers.Permuted.{Permuted}
 use Rattle.permutation.proofs.Answering.{permutedWith, list-record}
@@ -46,12 +46,12 @@ module _ {low high : List ℕ} (b : Banded low high) where
   pub sure-order : leadTest low high (length low - 1) (permutationOf low) ≡ true → SureOrder low high (permutationOf low)
   sure-order e = above-order (b .bands) (length low - 1) (omega arith) (omega arith) (tested-above (b .bands) (length low - 1) (omega (arith, b .few)) e)
 
-  pub order-sure : {xs : List ℕ} → SureOrder low high xs → leadTest low high (length low - 1) (permutationOf low) ≡ true
+  order-sure : {xs : List ℕ} → SureOrder low high xs → leadTest low high (length low - 1) (permutationOf low) ≡ true
   order-sure s = above-tested (b .bands) (length low - 1) (omega (arith, b .few)) (order-above (b .bands) s (length low - 1) (omega arith))
 
 -- ---- what the number tells
 
-pub done-order : (low high : List ℕ) → sureNumber low high ≡ 0 → Banded low high × (leadTest low high (length low - 1) (permutationOf low) ≡ true)
+done-order : (low high : List ℕ) → sureNumber low high ≡ 0 → Banded low high × (leadTest low high (length low - 1) (permutationOf low) ≡ true)
 unfolding sureNumber
 done-order low high z =
     let t = orElse-done (bandsNumber low high) (unsureOf low high (length low - 1)) z in

@@ -7,7 +7,7 @@ use native.Mathlib.Omega.{arith}
 use lib.ListN.{length, take}
 use Rattle.theory.specs.Permutation.{IsPermutation}
 use Rattle.theory.specs.Levels.{permutationOf, ReadsAs}
-use Rattle.theory.proofs.Sorting.{permutationOf-permutation, permutationOf-length, reads-permutationOf, reads-untied, reads-is}
+use Rattle.theory.proofs.Sorting.{permutationOf-permutation, reads-permutationOf, reads-untied, reads-is}
 use Rattle.bands.specs.Bands.{Bands, Choice, SureOrder, SureLead}
 use Rattle.bands.specs.LeadTest.{leadTest}
 use Rattle.bands.proofs.Above.{Above, test-above, above-test, falls-above, above-falls}

@@ -12,34 +12,34 @@ use Rattle.theory.specs.Reasons.{idle, unsure}
 use Rattle.theory.specs.Refusal.{orElse}
 use Rattle.theory.specs.Factorial.{factorial}
 use Rattle.theory.specs.Levels.{permutationOf}
-use Rattle.theory.specs.Prefix.{IsPrefix, prefixAt, prefixNumber, prefixLength, symbolPrefix, symbolOf}
+use Rattle.theory.specs.Prefix.{prefixAt, prefixNumber, prefixLength, symbolPrefix, symbolOf}
 use Rattle.theory.specs.Claims.{Numbering, Coding}
 use Rattle.theory.proofs.Cases.{by-test}
-use Rattle.theory.proofs.Prefixes.{numbering, coding, permutation-prefix, prefixLength-short}
-use Rattle.theory.proofs.Refusal.{refused, answered, orElse-done, orElse-refused, orElse-past, tested, test-failed, test-only}
+use Rattle.theory.proofs.Prefixes.{numbering, coding, prefixLength-short}
+use Rattle.theory.proofs.Refusal.{refused, orElse-done, orElse-refused, orElse-past, tested, test-failed, test-only}
 use Rattle.theory.proofs.Sorting.{permutationOf-permutation}
 use Rattle.symbols.specs.Answers.{coded, codeOf, idleOf}
-use Rattle.symbols.specs.Reading.{ledAnswer}
+use Rattle.symbols.specs.ByCode.{ledAnswer}
 use Rattle.symbols.specs.declared.answers.Symbol.{Symbol}
 use Rattle.symbols.proofs.Symbols.{symbolWith, code-done, code-range, led-idle, led-done}
 use Rattle.bands.specs.LeadTest.{leadTest}
-use Rattle.bands.specs.Answers.{bandsNumber, unsureOf, Banded, BandedCode, sureSymbolNumber, sureSymbolAnswer, Led, LedIdle, SymbolExactly}
+use Rattle.bands.specs.Answers.{bandsNumber, unsureOf, Banded, BandedCode, sureSymbolNumber, sureSymbolAnswer, Led, SymbolExactly}
 use Rattle.bands.proofs.Judging.{banded, banded-done, bands-only}
 use Rattle.bands.proofs.Sure.{above-lead, lead-same, lead-above, tested-above, above-tested}
 
 -- ---- what each way out answers
 module _ (low high : List ℕ) (m : ℕ) where
-  pub symbol-refused : {number : ℕ} → number ≡ sureSymbolNumber low high m → (number ≡ 0 → ⊥) → symbolWith number 0 ≡ sureSymbolAnswer low high m
+  pub sure-symbol-refused : {number : ℕ} → number ≡ sureSymbolNumber low high m → (number ≡ 0 → ⊥) → symbolWith number 0 ≡ sureSymbolAnswer low high m
   unfolding sureSymbolAnswer
-  symbol-refused e ne = refused symbolWith (symbolOf (length low) m (permutationOf low)) 0 e ne
+  sure-symbol-refused e ne = refused symbolWith (symbolOf (length low) m (permutationOf low)) 0 e ne
 
-  pub symbol-fault : {number : ℕ} → number ≡ bandsNumber low high → (number ≡ 0 → ⊥) → number ≡ sureSymbolNumber low high m
+  pub sure-symbol-fault : {number : ℕ} → number ≡ bandsNumber low high → (number ≡ 0 → ⊥) → number ≡ sureSymbolNumber low high m
   unfolding sureSymbolNumber
-  symbol-fault e ne = orElse-refused (bandsNumber low high) _ e ne
+  sure-symbol-fault e ne = orElse-refused (bandsNumber low high) _ e ne
 
-  pub symbol-code : {number : ℕ} → Banded low high → number ≡ codeOf (length low) m → (number ≡ 0 → ⊥) → number ≡ sureSymbolNumber low high m
+  pub sure-symbol-code : {number : ℕ} → Banded low high → number ≡ codeOf (length low) m → (number ≡ 0 → ⊥) → number ≡ sureSymbolNumber low high m
   unfolding sureSymbolNumber
-  symbol-code b e ne = rw (banded-done b) (orElse-refused (codeOf (length low) m) _ e ne)
+  sure-symbol-code b e ne = rw (banded-done b) (orElse-refused (codeOf (length low) m) _ e ne)
 
 module _ {low high : List ℕ} {m : ℕ} (k : BandedCode low high m) where
   abbrev n : ℕ
@@ -60,23 +60,23 @@ module _ {low high : List ℕ} {m : ℕ} (k : BandedCode low high m) where
   code : codeOf n m ≡ 0
   code = code-done n m (k .one) (k .most)
 
-  pub symbol-unsure : leadTest low high p xs ≡ false → unsure ≡ sureSymbolNumber low high m
+  pub sure-symbol-unsure : leadTest low high p xs ≡ false → unsure ≡ sureSymbolNumber low high m
   unfolding sureSymbolNumber
-  symbol-unsure e = rw (banded-done (k .banded), code, e)
+  sure-symbol-unsure e = rw (banded-done (k .banded), code, e)
 
-  pub symbol-led : leadTest low high p xs ≡ true → ledAnswer n m xs ≡ sureSymbolAnswer low high m
+  pub sure-symbol-led : leadTest low high p xs ≡ true → ledAnswer n m xs ≡ sureSymbolAnswer low high m
   unfolding ledAnswer sureSymbolAnswer sureSymbolNumber
-  symbol-led e = rw (banded-done (k .banded), code, e)
+  sure-symbol-led e = rw (banded-done (k .banded), code, e)
 
   -- ---- the test tells whether cells lead in every choice
   pub sure-led : leadTest low high p xs ≡ true → Led low high m (take p xs)
   sure-led e = above-lead (k .banded .bands) p (omega (arith, short)) (tested-above (k .banded .bands) p short e)
 
   module _ {q : List ℕ} (l : Led low high m q) where
-    pub led-sure : leadTest low high p xs ≡ true
+    led-sure : leadTest low high p xs ≡ true
     led-sure = above-tested (k .banded .bands) p short (lead-above (k .banded .bands) p (omega (arith, short)) l)
 
-    pub led-same : take p xs ≡ q
+    led-same : take p xs ≡ q
     led-same = lead-same (k .banded .bands) p (omega (arith, short)) l
 
   -- ---- the number of a prefix goes by its cells alone
@@ -93,7 +93,7 @@ module _ {low high : List ℕ} {m : ℕ} (k : BandedCode low high m) where
   pub number-led : (ys : List ℕ) → take p ys ≡ take p xs → prefixNumber n p ys ≡ symbolOf n m xs
   number-led ys e = let r = codes .reads xs (permutationOf-permutation low) in number-of ys (symbolOf n m xs) (r .0) (e ∙ sym (r .1))
 
-  pub led-symbol : {s : ℕ} → Led low high m (symbolPrefix n m s) → s < factorial n / factorial (n - p) → symbolOf n m xs ≡ s
+  led-symbol : {s : ℕ} → Led low high m (symbolPrefix n m s) → s < factorial n / factorial (n - p) → symbolOf n m xs ≡ s
   unfolding symbolOf
   led-symbol {s} l h = number-of xs s h (led-same l)
 
@@ -114,13 +114,13 @@ module _ (low high : List ℕ) (m : ℕ) where
       let r = code-range (length low) m (b .0) in
       (record { banded = banded low high (a .0); one = r .0; most = r .1 }, b .1)
 
-  pub done-symbol : sureSymbolNumber low high m ≡ 0 → BandedCode low high m × (test ≡ true) × (symbolOf (length low) m (permutationOf low) < m)
+  done-symbol : sureSymbolNumber low high m ≡ 0 → BandedCode low high m × (test ≡ true) × (symbolOf (length low) m (permutationOf low) < m)
   done-symbol z =
       let t = taken (λ e. omega arith) (λ e. omega arith) (λ e. omega arith) z in
       let l = orElse-done (unsureOf low high (prefixLength (length low) m)) (idleOf (length low) m (permutationOf low)) (t .1) in
       (t .0, tested _ (λ e. omega arith) (l .0), ltb-true _ m (tested _ (λ e. omega arith) (l .1)))
 
-  pub idle-symbol : sureSymbolNumber low high m ≡ 7 → BandedCode low high m × (test ≡ true) × (m ≤ symbolOf (length low) m (permutationOf low))
+  idle-symbol : sureSymbolNumber low high m ≡ 7 → BandedCode low high m × (test ≡ true) × (m ≤ symbolOf (length low) m (permutationOf low))
   idle-symbol z =
       let t = taken (λ e. omega arith) (λ e. omega arith) (λ e. omega arith) z in
       let l = orElse-past (unsureOf low high (prefixLength (length low) m)) (idleOf (length low) m (permutationOf low)) (test-only test {why = 10} {k = 7} (λ e. omega arith)) (t .1) in
@@ -146,18 +146,18 @@ symbol-exactly low high m {r} e =
           (t .0, omega (arith, t .2, s), rw (s, codes (t .0) .reads xs (permutationOf-permutation low) .1) (sure-led (t .0) (t .1)));
       sure = λ k s less l.
           let is : symbolOf (length low) m xs ≡ s = led-symbol k l (omega (arith, codes k .enough)) in
-          e ∙ sym (symbol-led k (led-sure k l)) ∙ sym (led-done (length low) m xs (sym is) less);
+          e ∙ sym (sure-symbol-led k (led-sure k l)) ∙ sym (led-done (length low) m xs (sym is) less);
       idled = λ z.
           let t = idle-symbol low high m (sym number ∙ z) in
           (t .0, record { prefix = take p xs; led = sure-led (t .0) (t .1); idle = omega (arith, t .2, number-led (t .0) (take p xs) (take-take p p xs (omega arith))) });
       idle = λ k i.
           let same : take p (i .prefix) ≡ take p xs = ap (take p) (sym (led-same k (i .led))) ∙ take-take p p xs (omega arith) in
-          e ∙ sym (symbol-led k (led-sure k (i .led))) ∙ sym (led-idle (length low) m xs refl (omega (arith, i .idle, number-led k (i .prefix) same)));
+          e ∙ sym (sure-symbol-led k (led-sure k (i .led))) ∙ sym (led-idle (length low) m xs refl (omega (arith, i .idle, number-led k (i .prefix) same)));
       refused = λ z.
           let t = unsure-symbol low high m (sym number ∙ z) in
           (t .0, λ q l. false≢true (sym (t .1) ∙ led-sure (t .0) l));
       unsure = λ k none.
           by-test (leadTest low high p xs)
           (λ t. absurd (none (take p xs) (sure-led k t)))
-          (λ t. e ∙ sym (symbol-refused low high m (symbol-unsure k t) (λ z. omega arith)));
+          (λ t. e ∙ sym (sure-symbol-refused low high m (sure-symbol-unsure k t) (λ z. omega arith)));
     }

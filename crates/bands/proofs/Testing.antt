@@ -1,6 +1,6 @@
 -- The test, from the bottom up: one turn of the way. Assumes nothing.
-use mathlib.Core.Path.{_≡_, sym, ap, _∙_}
-use mathlib.Core.Bool.{true, false, _&&_, and-eq-true-iff, false≢true}
+use mathlib.Core.Path.{_≡_, _∙_}
+use mathlib.Core.Bool.{true, false, _&&_, and-eq-true-iff}
 use mathlib.Core.List.{List, [], _∷_, map}
 use Prim.Native.Nat.{ℕ, suc, _-_, _≤_, _<_, max}
 use native.Mathlib.Omega.{arith}

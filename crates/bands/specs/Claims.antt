@@ -14,7 +14,7 @@ use Rattle.bands.specs.Bands.{Bands, Choice, SureOrder, SureLead}
 use Rattle.bands.specs.Answers.{Banded, BandedCode, sureNumber, sureAnswer, sureSymbolNumber, sureSymbolAnswer}
 
 -- what is read from bands
-pub record Reading (low high : List ℕ) : Type 0 where
+pub record BandReading (low high : List ℕ) : Type 0 where
   -- where it is not unsure, it is what is read from the levels of every choice without a tie; where an order is given no choice has one
   pub order :
       Bands low high → (sureNumber low high ≡ 10 → ⊥) → (L : List ℕ) → Choice low high L

@@ -1,11 +1,11 @@
 // What a job on bands is judged by: size, fit and value of two lists, and whether cells lead in every choice of levels.
 ghost use mathlib.Core.Path.{_≡_};
 ghost use mathlib.Core.Bool.{_&&_};
-ghost use Prim.Native.Nat.{max};
 ghost use lib.Dec.{leb, ltb};
 ghost use lib.ListN.{length, take};
 ghost use Rattle.bands.specs.LeadTest.{leadTest, Testable};
 ghost use Rattle.bands.specs.Answers.{noneAbove, bandsNumber};
+use charge::judge::larger;
 use permutation::cell::wide;
 use permutation::reasons::FIT;
 use permutation::reasons::SIZE;
@@ -56,15 +56,6 @@ fn falls_short(i: usize, p: usize, level: u16, bound: u16) -> bool
     true
 }
 
-fn higher(a: u16, b: u16) -> u16
-    ensures { λ r. ⌜ r ≡ max a b ⌝ }
-{
-    if a < b {
-        return b;
-    }
-    a
-}
-
 // Do the first p of the cells lead in every choice? From the bottom up, the bound is the highest level of the cells passed.
 pub fn lead_surely(lowest: &[u16], highest: &[u16], cells: &[u8; 20], p: usize) -> bool
     requires { ⌜ Testable (now lowest) (now highest) (now cells) p ⌝ }
@@ -78,7 +69,7 @@ pub fn lead_surely(lowest: &[u16], highest: &[u16], cells: &[u8; 20], p: usize) 
         if falls_short(i, p, lowest[cell - 1], bound) {
             return false;
         }
-        bound = higher(highest[cell - 1], bound);
+        bound = larger(highest[cell - 1], bound);
     }
     true
 }

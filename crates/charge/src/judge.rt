@@ -1,6 +1,6 @@
 // What a job on levels is judged by, before its first push: size, tie, the highest level, and a count-up call as a whole. And the lowest level, for runs.
 ghost use mathlib.Core.Path.{_≡_};
-ghost use Prim.Native.Nat.{_≤_};
+ghost use Prim.Native.Nat.{_≤_, max};
 ghost use lib.ListN.{length, drop};
 ghost use Rattle.theory.specs.Lists.{member};
 ghost use Rattle.theory.specs.Levels as meaning;
@@ -57,6 +57,13 @@ pub fn addend(level: u16) -> u32
     ensures { λ r. ⌜ (r ≡ level) × (r ≤ 65535) ⌝ }
 {
     level as u32
+}
+
+// The larger of two levels, or of two differences of levels. For other crates too.
+pub fn larger(a: u16, b: u16) -> u16
+    ensures { λ r. ⌜ r ≡ max a b ⌝ }
+{
+    if a < b { b } else { a }
 }
 
 // For other crates too.

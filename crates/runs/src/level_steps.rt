@@ -1,6 +1,5 @@
 // k steps on lent levels, each by the public jobs: it reads the permutation, asks its successor and pushes on the levels at the place given.
 ghost use mathlib.Core.Path.{_≡_};
-ghost use Prim.Native.Nat.{max};
 ghost use Rattle.theory.specs.Levels.{topLessBottom, pushLevel, jump};
 ghost use Rattle.theory.specs.CountUp.{nextCell, callNumber, callLevels};
 ghost use Rattle.theory.specs.Spent.{Spends};
@@ -8,6 +7,7 @@ ghost use Rattle.runs.specs.LevelSteps.{noRun, levelRunAnswer, LevelsOf}
 use super::answers::RanLevels;
 use charge::judge::highest;
 use charge::judge::judge_call;
+use charge::judge::larger;
 use charge::judge::lowest;
 use charge::push_level::push_level;
 use charge::read::read;
@@ -40,12 +40,6 @@ fn step_levels(levels: &mut [u16]) -> Stepped
         raise,
         spread,
     }
-}
-
-fn larger(a: u16, b: u16) -> u16
-    ensures { λ r. ⌜ r ≡ max a b ⌝ }
-{
-    if a < b { b } else { a }
 }
 
 // A refusal.

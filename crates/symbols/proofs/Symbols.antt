@@ -22,8 +22,8 @@ use Rattle.permutation.specs.declared.validity.Checked.{Checked}
 use Rattle.permutation.proofs.Records.{Sound, fault-record}
 use Rattle.permutation.proofs.Answering.{list-record}
 use Rattle.permutation.proofs.Checking.{check-spots}
-use Rattle.symbols.specs.Answers.{coded, codeOf, idleOf, symbolNumber, symbolAnswer}
-use Rattle.symbols.specs.Reading.{codeJudged, ledAnswer}
+use Rattle.symbols.specs.Answers.{coded, codeOf, symbolNumber, symbolAnswer}
+use Rattle.symbols.specs.ByCode.{codeJudged, ledAnswer}
 use Rattle.symbols.specs.PrefixDigits.{RowSpots}
 use Rattle.symbols.specs.declared.answers.Symbol.{Symbol}
 use Rattle.symbols.specs.declared.code.Code.{Code}

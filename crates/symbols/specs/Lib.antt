@@ -2,4 +2,4 @@
 pub mod Answers
 pub mod AnyPrefix
 pub mod PrefixDigits
-pub mod Reading
+pub mod ByCode

@@ -1,7 +1,7 @@
 // What a code is judged by.
 ghost use mathlib.Core.Path.{_≡_};
 ghost use Prim.Native.Nat.{_≤_};
-ghost use Rattle.symbols.specs.Reading.{codeJudged};
+ghost use Rattle.symbols.specs.ByCode.{codeJudged};
 use super::prefix_length::prefix_length;
 use permutation::reasons::VALUE;
 use ranking::factorials::factorial_table;

@@ -5,7 +5,7 @@ ghost use Rattle.theory.specs.Factorial.{factorial};
 ghost use Rattle.theory.specs.Prefix.{prefixLength};
 ghost use Rattle.permutation.specs.Records.{listOf, recordNumber};
 ghost use Rattle.symbols.specs.Answers.{symbolAnswer};
-ghost use Rattle.symbols.specs.Reading.{ledAnswer};
+ghost use Rattle.symbols.specs.ByCode.{ledAnswer};
 use super::answers::Symbol;
 use super::code::judge_code;
 use super::number::prefix_number;

@@ -1,5 +1,5 @@
 -- `bands::judge::lead_surely` meets its contract: what was found on the way up is that of the cells passed. Assumes nothing.
-use mathlib.Core.Path.{_≡_, sym, _∙_}
+use mathlib.Core.Path.{sym, _∙_}
 use Prim.Native.Nat.{_≤_}
 use native.Mathlib.Omega.{arith}
 use borrow.Author.Needs.{needs}
@@ -49,14 +49,14 @@ returns c =
     let e = sym (c .before .falls-short .ensures) ∙ c .if1 .taken in
     sym (found-not (start w .pre) (at .before .loop .inv) (at .loop-test .taken) (rw (w .wide .ensures) at e))
 
-sub-higher : tie.Need-sub-higher Inv-loop μ-loop
-sub-higher c = bounds (c .before .before .before) .0
+sub-larger : tie.Need-sub-larger Inv-loop μ-loop
+sub-larger c = bounds (c .before .before .before) .0
 
-mul-higher : tie.Need-mul-higher Inv-loop μ-loop
-mul-higher c = let w = c .before .before .before in omega (arith, bounds w .1, start w .pre .many)
+mul-larger : tie.Need-mul-larger Inv-loop μ-loop
+mul-larger c = let w = c .before .before .before in omega (arith, bounds w .1, start w .pre .many)
 
-shared-slice-read-higher : tie.Need-shared-slice-read-higher Inv-loop μ-loop
-shared-slice-read-higher c = let w = c .before .before .before .before in omega (arith, bounds w, start w .pre .same)
+shared-slice-read-larger : tie.Need-shared-slice-read-larger Inv-loop μ-loop
+shared-slice-read-larger c = let w = c .before .before .before .before in omega (arith, bounds w, start w .pre .same)
 
 loop-less : tie.Need-loop-less Inv-loop μ-loop
 loop-less c = search needs
@@ -66,7 +66,7 @@ loop-again c =
     let w = c .before .before .before .before .before in
     let at = w .before .before in
     let e = sym (c .before .before .before .falls-short .ensures) ∙ c .before .before .if1 .left in
-    rw (c .higher .ensures, w .wide .ensures) (found-more (start w .pre) (at .before .loop .inv) (at .loop-test .taken) (rw (w .wide .ensures) at e))
+    rw (c .larger .ensures, w .wide .ensures) (found-more (start w .pre) (at .before .loop .inv) (at .loop-test .taken) (rw (w .wide .ensures) at e))
 
 returns-2 : tie.Need-returns-2 Inv-loop μ-loop
 returns-2 c = sym (found-all (c .before .before .before .before .pre) (c .before .loop .inv) (c .loop-test .left))
@@ -86,9 +86,9 @@ lead-surely-spec =
     shared-slice-read-falls-short
     (λ c κs. tt)
     returns
-    sub-higher
-    mul-higher
-    shared-slice-read-higher
+    sub-larger
+    mul-larger
+    shared-slice-read-larger
     (λ c κs. tt)
     loop-less
     loop-again

@@ -1,8 +1,7 @@
 -- `bands::read::read_bands` meets its contract: a fault is passed on, and otherwise the test on the sorted cells decides. Assumes nothing.
 use mathlib.Core.Path.{_≡_, refl, sym, _∙_}
-use Prim.Native.Nat.{_-_, _<_}
+use Prim.Native.Nat.{_-_}
 use native.Mathlib.Omega.{arith}
-use borrow.Author.Needs.{needs}
 use lib.ListN.{length}
 use Rattle.theory.specs.Permutation.{row}
 use Rattle.theory.specs.Levels.{permutationOf}

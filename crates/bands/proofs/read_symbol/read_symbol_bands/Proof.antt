@@ -1,7 +1,6 @@
 -- `bands::read_symbol::read_symbol_bands` meets its contract: each test decides the number, and past them the sorted cells are read by the code. Assumes nothing.
 use mathlib.Core.Path.{_≡_, refl, sym, _∙_}
 use native.Mathlib.Omega.{arith}
-use borrow.Author.Needs.{needs}
 use lib.ListN.{length}
 use Rattle.theory.specs.Permutation.{row}
 use Rattle.theory.specs.Levels.{permutationOf}
@@ -12,7 +11,7 @@ use Rattle.bands.specs.LeadTest.{leadTest}
 use Rattle.bands.specs.Answers.{Banded, BandedCode}
 use Rattle.bands.proofs.Judging.{banded}
 use Rattle.bands.proofs.Rows.{row-testable, row-tested, row-record}
-use Rattle.bands.proofs.Symbols.{short, symbol-refused, symbol-fault, symbol-code, symbol-unsure, symbol-led, symbol-exactly}
+use Rattle.bands.proofs.Symbols.{short, sure-symbol-refused, sure-symbol-fault, sure-symbol-code, sure-symbol-unsure, sure-symbol-led, symbol-exactly}
 use Rattle.bands.proofs.read_symbol.read_symbol_bands.Statement.{statement}
 use Rattle.bands.proofs.read_symbol.read_symbol_bands.Tie as tie
 
@@ -52,7 +51,7 @@ test-is c =
 returns : tie.Need-returns
 returns c =
     let ne = c .before .if1 .taken in
-    let e = c .no-symbol .ensures ∙ symbol-refused _ _ _ (symbol-fault _ _ _ (c .before .before .bands-number .ensures) ne) ne in
+    let e = c .no-symbol .ensures ∙ sure-symbol-refused _ _ _ (sure-symbol-fault _ _ _ (c .before .before .bands-number .ensures) ne) ne in
     (e, symbol-exactly _ _ _ e)
 
 judge-code-requires : tie.Need-judge-code-requires
@@ -63,7 +62,7 @@ returns-2 c =
     let k = c .before .before .before in
     let ne = c .before .if2 .taken in
     let e = c .no-symbol2 .ensures
-    ∙ symbol-refused _ _ _ (symbol-code _ _ _ (faultless (k .before)) (judged-number _ _ (k .judge-code .ensures)) ne) ne in
+    ∙ sure-symbol-refused _ _ _ (sure-symbol-code _ _ _ (faultless (k .before)) (judged-number _ _ (k .judge-code .ensures)) ne) ne in
     (e, symbol-exactly _ _ _ e)
 
 sort-cells-requires : tie.Need-sort-cells-requires
@@ -86,14 +85,14 @@ returns-3 c =
     let s = t .before .before in
     let k = code (past s) in
     let e = led-by _ (k .banded .few) (k .banded .many) (row-record (k .banded) (sorted s)) _ (c .leading-symbol .ensures)
-    ∙ symbol-led k (sym (test-is t) ∙ c .before .if3 .taken) in
+    ∙ sure-symbol-led k (sym (test-is t) ∙ c .before .if3 .taken) in
     (e, symbol-exactly _ _ _ e)
 
 returns-4 : tie.Need-returns-4
 returns-4 c =
     let t = c .before .before in
     let k = code (past (t .before .before)) in
-    let e = c .no-symbol3 .ensures ∙ symbol-refused _ _ _ (symbol-unsure k (sym (test-is t) ∙ c .before .if3 .left)) (λ z. omega arith) in
+    let e = c .no-symbol3 .ensures ∙ sure-symbol-refused _ _ _ (sure-symbol-unsure k (sym (test-is t) ∙ c .before .if3 .left)) (λ z. omega arith) in
     (e, symbol-exactly _ _ _ e)
 
 pub read-symbol-bands-spec : {M : Type 1} → statement M

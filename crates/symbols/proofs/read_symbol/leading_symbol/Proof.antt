@@ -1,6 +1,5 @@
 -- `symbols::read_symbol::leading_symbol` meets its contract: the prefix's number is the symbol, or it is idle. Assumes nothing.
 use mathlib.Core.Path.{_≡_, _∙_}
-use native.Mathlib.Omega.{arith}
 use borrow.Author.Needs.{needs}
 use Rattle.theory.specs.Prefix.{symbolOf}
 use Rattle.permutation.specs.Records.{listOf}
