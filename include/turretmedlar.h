@@ -47,7 +47,7 @@ enum tm_reason {
     TM_TIE = 4,     /* tie: two levels are equal */
     TM_VALUE = 5,   /* value: a rank, place, m or symbol is outside its range, or a lowest level is above its highest */
     TM_CEILING = 6, /* ceiling: the highest level plus the job's pushes exceeds 65,535 */
-    TM_IDLE = 7,    /* idle: the levels' prefix is that of none of the m symbols */
+    TM_IDLE = 7,    /* idle: the prefix that leads is that of none of the m symbols */
     TM_SHEET = 8,   /* sheet: a bench sheet is ill-formed, or what is to be written is on none: a count, kind, group number or k is outside its range */
     TM_PAPER = 9,   /* paper: a lent list is shorter than the sheet that is to be written */
     TM_UNSURE = 10  /* unsure: bands leave open which permutation it is, or which prefix leads */

@@ -34,7 +34,7 @@ fn group(random: &mut Random, n: usize) -> (Vec<u8>, Bands) {
     (names, bands)
 }
 
-/// Makes the bands of the cells at two places share a level: the upper one's lowest, the lower one's highest, or those between them.
+/// Makes the bands of the cells at two places share a level: the upper one's lowest, the lower one's highest, or one between them.
 fn touch(random: &mut Random, names: &[u8], (lowest, highest): &mut Bands, upper: usize, lower: usize) {
     let (upper, lower) = (usize::from(names[upper]) - 1, usize::from(names[lower]) - 1);
     let (above, below) = (lowest[upper], highest[lower]);

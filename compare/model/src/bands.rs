@@ -5,7 +5,7 @@ use crate::permutations::Permutation;
 use crate::reason::{check_size, refuse_if, Reason};
 use crate::symbols::{check_code, prefix_length, symbol_of_prefix};
 
-/// "With n the length of the list of lowest levels, lists of different length are fit, a lowest above its highest is value."
+/// "With n the length of the list of lowest levels, lists of different length are fit, a lowest above its highest is value, and tie doesn't arise here."
 fn check_bands(lowest: &[u16], highest: &[u16]) -> Result<(), Reason> {
     check_size(lowest.len())?;
     refuse_if(highest.len() != lowest.len(), Reason::Fit)?;

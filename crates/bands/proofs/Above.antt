@@ -1,4 +1,4 @@
--- Cells that are, at their lowest, above all cells after them at their highest: the test of it, and levels that fall. Assumes nothing.
+-- Cells above all that come after them: the test of it, and levels that fall. Assumes nothing.
 use mathlib.Core.Path.{_≡_, refl}
 use mathlib.Core.Bool.{true, and-eq-true-iff, false≢true}
 use mathlib.Core.List.{List, [], _∷_, map}
@@ -13,7 +13,7 @@ use Rattle.theory.proofs.Members.{member-count, count-member}
 use Rattle.symbols.proofs.Along.{along-highest, along-below}
 use Rattle.bands.specs.LeadTest.{leadTest}
 
--- so are the first p of xs
+-- each of the first p cells of xs is, at its lowest, above all cells after it at their highest
 abbrev pub Above : List ℕ → List ℕ → ℕ → List ℕ → Type 0
 Above low high p xs = (j c : ℕ) → j < p → member c (drop (suc j) xs) ≡ true → level high c < level low (getD xs j 0)
 

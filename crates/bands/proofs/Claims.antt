@@ -17,20 +17,21 @@ use Rattle.theory.proofs.Members.{member-later}
 use Rattle.theory.proofs.Refusal.{orElse-only, test-only, size-range, read-done}
 use Rattle.theory.proofs.Sorting.{permutationOf-length, reads-permutationOf}
 use Rattle.charge.specs.Answers.{readAnswer}
+use Rattle.charge.proofs.Indexing.{sorted-sinks}
 use Rattle.symbols.specs.Answers.{coded, symbolAnswer, symbolNumber}
-use Rattle.symbols.specs.ByCode.{ledAnswer}
-use Rattle.symbols.proofs.Symbols.{code-range, led-done, symbol-led}
+use Rattle.symbols.specs.ByCode.{codeRead}
+use Rattle.symbols.proofs.Codes.{code-range}
+use Rattle.symbols.proofs.Symbols.{code-read-done, symbol-given}
 use Rattle.bands.specs.Bands.{Bands, Choice, SureOrder, SureLead}
-use Rattle.bands.specs.LeadTest.{leadTest}
+use Rattle.bands.specs.LeadTest.{leadTest, sureTest}
 use Rattle.bands.specs.Answers.{Banded, BandedCode, bandsNumber, sureNumber, sureAnswer, sureSymbolNumber, sureSymbolAnswer}
 use Rattle.bands.specs.Claims.{BandReading, Touches, OneLevel}
-use Rattle.bands.proofs.Sinking.{sunk}
 use Rattle.bands.proofs.Above.{Above, falls-above}
 use Rattle.bands.proofs.Leading.{leads-first}
-use Rattle.bands.proofs.Sure.{above-lead, lead-above, above-order, order-same, order-above, tested-above, above-tested}
+use Rattle.bands.proofs.Sure.{above-lead, lead-same, lead-above, above-order, order-same, order-above, tested-above, above-tested}
 use Rattle.bands.proofs.Judging.{banded-done, bands-only}
 use Rattle.bands.proofs.Orders.{sure-order, unsure-order}
-use Rattle.bands.proofs.Symbols.{codes, short, sure-led, number-of, number-led, sure-symbol-unsure, sure-symbol-led, unsure-symbol}
+use Rattle.bands.proofs.Symbols.{codes, short, sure-led, number-of, number-led, sure-symbol-unsure, sure-symbol-given, unsure-symbol}
 
 -- ---- "tie doesn't arise here"
 module _ (low high : List ℕ) where
@@ -39,7 +40,7 @@ module _ (low high : List ℕ) where
   no-tie z =
       let none : _≡_ {A = ℕ} 4 0 =
       orElse-only _ _ (bands-only low high {k = 4} (λ e. omega arith) (λ e. omega arith) (λ e. omega arith))
-      (test-only (leadTest low high (length low - 1) (permutationOf low)) {why = 10} {k = 4} (λ e. omega arith)) z in
+      (test-only (sureTest low high (length low - 1)) {why = 10} {k = 4} (λ e. omega arith)) z in
       omega arith
 
   no-symbol-tie : (m : ℕ) → sureSymbolNumber low high m ≡ 4 → ⊥
@@ -48,7 +49,7 @@ module _ (low high : List ℕ) where
       let none : _≡_ {A = ℕ} 4 0 =
       orElse-only _ _ (bands-only low high {k = 4} (λ e. omega arith) (λ e. omega arith) (λ e. omega arith))
       (orElse-only _ _ (test-only (coded (length low) m) {why = 5} {k = 4} (λ e. omega arith))
-      (orElse-only _ _ (test-only (leadTest low high (prefixLength (length low) m) (permutationOf low)) {why = 10} {k = 4} (λ e. omega arith))
+      (orElse-only _ _ (test-only (sureTest low high (prefixLength (length low) m)) {why = 10} {k = 4} (λ e. omega arith))
       (test-only (ltb (symbolOf (length low) m (permutationOf low)) m) {why = 7} {k = 4} (λ e. omega arith)))) z in
       omega arith
 
@@ -76,15 +77,15 @@ module _ {low high : List ℕ} (b : Bands low high) where
       by-test (sized (length low))
       (λ s.
       let t = taken s in
-      by-test (leadTest low high (length low - 1) (permutationOf low))
+      by-test (sureTest low high (length low - 1))
       (λ e. let o = sure-order t e in rw (readable t k (o .untied L k), o .same L k, banded-done t, e))
       (λ e. absurd (sure (rw (banded-done t, e)))))
       (λ s. sizeless-order s k)
 
   -- the same cells lead, so the same symbol is read
-  same-symbol : {m : ℕ} (c : BandedCode low high m) → leadTest low high (prefixLength (length low) m) (permutationOf low) ≡ true
-      → (L : List ℕ) → Choice low high L → ledAnswer (length L) m (permutationOf L) ≡ ledAnswer (length low) m (permutationOf low)
-  unfolding ledAnswer symbolOf
+  same-symbol : {m : ℕ} (c : BandedCode low high m) → sureTest low high (prefixLength (length low) m) ≡ true
+      → (L : List ℕ) → Choice low high L → codeRead (length L) m (permutationOf L) ≡ codeRead (length low) m (permutationOf low)
+  unfolding codeRead symbolOf
   same-symbol c e L k =
       let first = leads-first (omega (arith, short c, k .long)) (sure-led c e L k) in
       rw (k .long, number-led c (permutationOf L) first)
@@ -104,8 +105,8 @@ module _ {low high : List ℕ} (b : Bands low high) where
       (λ v.
       let r = code-range (length low) m (rw v) in
       let c : BandedCode low high m = record { banded = t; one = r .0; most = r .1 } in
-      by-test (leadTest low high (prefixLength (length low) m) (permutationOf low))
-      (λ e. sym (symbol-led L m (readable t k u) (rw (k .long, v))) ∙ same-symbol c e L k ∙ sure-symbol-led c e)
+      by-test (sureTest low high (prefixLength (length low) m))
+      (λ e. sym (symbol-given L m (readable t k u) (rw (k .long, v))) ∙ same-symbol c e L k ∙ sure-symbol-given c e)
       (λ e. absurd (sure (sym (sure-symbol-unsure c e)))))
       (λ v. codeless m t v k u))
       (λ s. sizeless-symbol s k m)
@@ -113,8 +114,12 @@ module _ {low high : List ℕ} (b : Bands low high) where
   last : (xs : List ℕ) → SureOrder low high xs → SureLead low high (length low - 1) (take (length low - 1) xs)
   last xs s = rw (← order-same b s) (above-lead b (length low - 1) (omega arith) (order-above b s (length low - 1) (omega arith)))
 
-  all : (q : List ℕ) → SureLead low high (length low - 1) q → SureOrder low high (permutationOf low)
-  all q l = above-order b (length low - 1) (omega arith) (omega arith) (lead-above b (length low - 1) (omega arith) l)
+  all : (q : List ℕ) → SureLead low high (length low - 1) q
+      → (take (length low - 1) (permutationOf low) ≡ q) × SureOrder low high (permutationOf low)
+  all q l = (
+    lead-same b (length low - 1) (omega arith) l,
+    above-order b (length low - 1) (omega arith) (omega arith) (lead-above b (length low - 1) (omega arith) l),
+  )
 
 -- ---- one symbol: no cell needs to lead
 module _ {low high : List ℕ} (b : Banded low high) where
@@ -130,7 +135,7 @@ module _ {low high : List ℕ} (b : Banded low high) where
 
   one-symbol : sureSymbolAnswer low high 1 ≡ record { number = 0; symbol = 0 }
   unfolding leadTest
-  one-symbol = sym (led-done (length low) 1 (permutationOf low) (sym zero-read) (omega arith) ∙ sure-symbol-led only (rw none-lead))
+  one-symbol = sym (code-read-done (length low) 1 (permutationOf low) (sym zero-read) (omega arith) ∙ sure-symbol-given only (rw none-lead))
 
 pub reading-bands : (low high : List ℕ) → BandReading low high
 reading-bands low high = record {
@@ -173,14 +178,14 @@ module _ (L : List ℕ) where
   tied-order : Banded L L → tied L ≡ true → sureNumber L L ≡ 10
   unfolding sureNumber
   tied-order b t =
-      by-test (leadTest L L (length L - 1) (permutationOf L))
+      by-test (sureTest L L (length L - 1))
       (λ e. absurd (false≢true (sym (sure-order b e .untied L own-choice) ∙ t)))
       (λ e. rw (banded-done b, e))
 
   tied-symbol : (m : ℕ) → BandedCode L L m → Touches L (prefixLength (length L) m) → sureSymbolNumber L L m ≡ 10
   tied-symbol m c t =
       let p : ℕ = prefixLength (length L) m in
-      by-test (leadTest L L p (permutationOf L))
+      by-test (sureTest L L p)
       (λ e.
       let next : suc (t .place - 1) ≡ t .place = omega (arith, t .first .0) in
       absurd (omega (arith, t .equal, tested-above own p (short c) e (t .place - 1) (t .other) (omega (arith, t .first)) (rw next (t .after)))))
@@ -197,7 +202,7 @@ module _ (L : List ℕ) where
       let back : suc j - 1 ≡ j = omega arith in
       by-name (level L c) (level L (getD xs j 0))
       (λ q e. absurd (none (record { place = suc j; other = c; first = (omega arith, less); after = l; equal = rw back q })))
-      (λ ne e. omega (arith, sunk L j c here, ne)))
+      (λ ne e. omega (arith, sorted-sinks L j c here, ne)))
       z
 
 pub one-level : (L : List ℕ) → OneLevel L

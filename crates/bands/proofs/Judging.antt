@@ -1,17 +1,16 @@
 -- The number of two lists of levels, by the tests that the code makes. Assumes nothing.
-use mathlib.Core.Path.{_≡_, refl, sym, _∙_}
+use mathlib.Core.Path.{_≡_, refl, sym}
 use mathlib.Core.Bool.{true, false, cond, and-eq-true-iff}
 use mathlib.Core.List.{List, [], _∷_}
 use Prim.Native.Nat.{ℕ, zero, suc, _+_, _-_, _≤_, _<_}
-use native.Mathlib.Numerals.{add-one}
 use native.Mathlib.Omega.{arith}
 use borrow.Author.Tests.{le-leb, lt-leb, leb-true, eq-eqb, ne-eqb, eqb-true}
 use lib.Dec.{eqb, leb}
 use lib.ListN.{length, getD, drop, drop-of-length-le}
-use lib.Seq.{drop-cons}
 use Rattle.theory.specs.Reasons.{done, fit, value, sized}
 use Rattle.theory.specs.Refusal.{sizeOf}
 use Rattle.theory.proofs.Refusal.{orElse-done, orElse-only, tested, test-only, size-range, size-done}
+use Rattle.charge.proofs.Scanning.{ahead}
 use Rattle.bands.specs.Answers.{noneAbove, bandsNumber, Banded}
 
 -- ---- no lowest level is above its highest, level by level
@@ -33,16 +32,13 @@ each-none (a ∷ low) (b ∷ high) same h =
 
 -- one turn along the lists
 module _ (low high : List ℕ) (i : ℕ) (same : length high ≡ length low) (h : i < length low) where
-  ahead : (L : List ℕ) → i < length L → drop i L ≡ getD L i 0 ∷ drop (i + 1) L
-  ahead L k = drop-cons L i 0 k ∙ rw (add-one i)
-
   pub none-not : getD high i 0 < getD low i 0 → noneAbove (drop i low) (drop i high) ≡ false
   unfolding noneAbove
-  none-not l = rw (ahead low h, ahead high (omega arith), lt-leb (getD low i 0) (getD high i 0) l)
+  none-not l = rw (ahead low i h, ahead high i (omega arith), lt-leb (getD low i 0) (getD high i 0) l)
 
   pub none-next : getD low i 0 ≤ getD high i 0 → noneAbove (drop i low) (drop i high) ≡ noneAbove (drop (i + 1) low) (drop (i + 1) high)
   unfolding noneAbove
-  none-next l = rw (ahead low h, ahead high (omega arith), le-leb (getD low i 0) (getD high i 0) l)
+  none-next l = rw (ahead low i h, ahead high i (omega arith), le-leb (getD low i 0) (getD high i 0) l)
 
 pub none-end : (low high : List ℕ) {i : ℕ} → length low ≤ i → noneAbove (drop i low) (drop i high) ≡ true
 unfolding noneAbove

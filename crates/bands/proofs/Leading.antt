@@ -10,11 +10,11 @@ use Rattle.theory.specs.Lists.{member}
 use Rattle.theory.specs.Permutation.{IsPermutation, cellAt}
 use Rattle.theory.specs.Levels.{level, permutationOf}
 use Rattle.theory.proofs.Cases.{by-test, by-name}
-use Rattle.theory.proofs.Members.{Distinct, member-first, member-getD, member-append, distinct-apart, permutation-distinct, count-member}
+use Rattle.theory.proofs.Members.{Distinct, member-first, member-getD, member-append, distinct-apart, permutation-distinct, cell-member}
 use Rattle.theory.proofs.Prefixes.{permutation-prefix}
 use Rattle.theory.proofs.Sorting.{permutationOf-permutation}
+use Rattle.charge.proofs.Indexing.{sorted-sinks}
 use Rattle.bands.specs.Bands.{Leads}
-use Rattle.bands.proofs.Sinking.{sunk}
 use Rattle.bands.proofs.Above.{Above}
 use Rattle.bands.proofs.Choices.{here, after}
 
@@ -35,9 +35,6 @@ before-cut xs i c d m =
 
 entry-new : (xs : List ℕ) (i : ℕ) → Distinct xs → i < length xs → member (getD xs i 0) (take i xs) ≡ false
 entry-new xs i d h = before-cut xs i (getD xs i 0) d (rw (drop-cons xs i 0 h) (member-first (getD xs i 0) (drop (suc i) xs)))
-
-cell-member : {n : ℕ} {xs : List ℕ} → IsPermutation n xs → (c : ℕ) → (1 ≤ c) × (c ≤ n) → member c xs ≡ true
-cell-member {xs = xs} o c h = count-member c xs (omega (arith, o .once c (h .0) (h .1)))
 
 -- ---- the first p cells of a permutation
 module _ {L xs : List ℕ} (o : IsPermutation (length L) xs) (p : ℕ) (fits : p ≤ length L) where
@@ -79,7 +76,7 @@ module _ {L : List ℕ} {p : ℕ} {q : List ℕ} (fits : p ≤ length L) (l : Le
     reached : level L (getD q i 0) ≤ level L (getD xs i 0)
     reached =
         let x : ℕ = getD q i 0 in
-        sunk L i x (after-cut xs i x (cell-member o x (l .prefix .named x (member-getD q i in-q))) (rw before (entry-new q i (l .prefix .distinct) in-q)))
+        sorted-sinks L i x (after-cut xs i x (cell-member o x (l .prefix .named x (member-getD q i in-q))) (rw before (entry-new q i (l .prefix .distinct) in-q)))
 
     -- and no cell but that of q reaches it
     same-cell : getD xs i 0 ≡ getD q i 0

@@ -1,5 +1,4 @@
 -- Laws that the proofs of the functions use, and the proofs of what is claimed.
-pub mod Sinking
 pub mod Above
 pub mod Choices
 pub mod Leading

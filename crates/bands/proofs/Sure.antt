@@ -9,7 +9,7 @@ use Rattle.theory.specs.Permutation.{IsPermutation}
 use Rattle.theory.specs.Levels.{permutationOf, ReadsAs}
 use Rattle.theory.proofs.Sorting.{permutationOf-permutation, reads-permutationOf, reads-untied, reads-is}
 use Rattle.bands.specs.Bands.{Bands, Choice, SureOrder, SureLead}
-use Rattle.bands.specs.LeadTest.{leadTest}
+use Rattle.bands.specs.LeadTest.{sureTest}
 use Rattle.bands.proofs.Above.{Above, test-above, above-test, falls-above, above-falls}
 use Rattle.bands.proofs.Choices.{lowest-choice, above-choices, choices-above}
 use Rattle.bands.proofs.Leading.{above-leads, leads-above, leads-first}
@@ -54,8 +54,8 @@ module _ {low high : List ℕ} (b : Bands low high) where
 
   -- ---- the test
   module _ (p : ℕ) (short : p < length low) where
-    pub tested-above : leadTest low high p xs ≡ true → Above low high p xs
+    pub tested-above : sureTest low high p ≡ true → Above low high p xs
     tested-above e = test-above low high p xs (omega (arith, o .long)) e
 
-    pub above-tested : Above low high p xs → leadTest low high p xs ≡ true
+    pub above-tested : Above low high p xs → sureTest low high p ≡ true
     above-tested a = above-test low high p xs (omega (arith, o .long)) a

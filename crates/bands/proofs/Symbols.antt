@@ -19,11 +19,12 @@ use Rattle.theory.proofs.Prefixes.{numbering, coding, prefixLength-short}
 use Rattle.theory.proofs.Refusal.{refused, orElse-done, orElse-refused, orElse-past, tested, test-failed, test-only}
 use Rattle.theory.proofs.Sorting.{permutationOf-permutation}
 use Rattle.symbols.specs.Answers.{coded, codeOf, idleOf}
-use Rattle.symbols.specs.ByCode.{ledAnswer}
+use Rattle.symbols.specs.ByCode.{codeRead}
 use Rattle.symbols.specs.declared.answers.Symbol.{Symbol}
-use Rattle.symbols.proofs.Symbols.{symbolWith, code-done, code-range, led-idle, led-done}
-use Rattle.bands.specs.LeadTest.{leadTest}
-use Rattle.bands.specs.Answers.{bandsNumber, unsureOf, Banded, BandedCode, sureSymbolNumber, sureSymbolAnswer, Led, SymbolExactly}
+use Rattle.symbols.proofs.Codes.{code-done, code-range}
+use Rattle.symbols.proofs.Symbols.{symbolWith, code-read-idle, code-read-done}
+use Rattle.bands.specs.LeadTest.{sureTest}
+use Rattle.bands.specs.Answers.{bandsNumber, unsureOf, Banded, BandedCode, sureSymbolNumber, sureSymbolAnswer, LedSurely, SymbolExactly}
 use Rattle.bands.proofs.Judging.{banded, banded-done, bands-only}
 use Rattle.bands.proofs.Sure.{above-lead, lead-same, lead-above, tested-above, above-tested}
 
@@ -60,20 +61,20 @@ module _ {low high : List ℕ} {m : ℕ} (k : BandedCode low high m) where
   code : codeOf n m ≡ 0
   code = code-done n m (k .one) (k .most)
 
-  pub sure-symbol-unsure : leadTest low high p xs ≡ false → unsure ≡ sureSymbolNumber low high m
+  pub sure-symbol-unsure : sureTest low high p ≡ false → unsure ≡ sureSymbolNumber low high m
   unfolding sureSymbolNumber
   sure-symbol-unsure e = rw (banded-done (k .banded), code, e)
 
-  pub sure-symbol-led : leadTest low high p xs ≡ true → ledAnswer n m xs ≡ sureSymbolAnswer low high m
-  unfolding ledAnswer sureSymbolAnswer sureSymbolNumber
-  sure-symbol-led e = rw (banded-done (k .banded), code, e)
+  pub sure-symbol-given : sureTest low high p ≡ true → codeRead n m xs ≡ sureSymbolAnswer low high m
+  unfolding codeRead sureSymbolAnswer sureSymbolNumber
+  sure-symbol-given e = rw (banded-done (k .banded), code, e)
 
   -- ---- the test tells whether cells lead in every choice
-  pub sure-led : leadTest low high p xs ≡ true → Led low high m (take p xs)
+  pub sure-led : sureTest low high p ≡ true → LedSurely low high m (take p xs)
   sure-led e = above-lead (k .banded .bands) p (omega (arith, short)) (tested-above (k .banded .bands) p short e)
 
-  module _ {q : List ℕ} (l : Led low high m q) where
-    led-sure : leadTest low high p xs ≡ true
+  module _ {q : List ℕ} (l : LedSurely low high m q) where
+    led-sure : sureTest low high p ≡ true
     led-sure = above-tested (k .banded .bands) p short (lead-above (k .banded .bands) p (omega (arith, short)) l)
 
     led-same : take p xs ≡ q
@@ -93,14 +94,14 @@ module _ {low high : List ℕ} {m : ℕ} (k : BandedCode low high m) where
   pub number-led : (ys : List ℕ) → take p ys ≡ take p xs → prefixNumber n p ys ≡ symbolOf n m xs
   number-led ys e = let r = codes .reads xs (permutationOf-permutation low) in number-of ys (symbolOf n m xs) (r .0) (e ∙ sym (r .1))
 
-  led-symbol : {s : ℕ} → Led low high m (symbolPrefix n m s) → s < factorial n / factorial (n - p) → symbolOf n m xs ≡ s
+  led-symbol : {s : ℕ} → LedSurely low high m (symbolPrefix n m s) → s < factorial n / factorial (n - p) → symbolOf n m xs ≡ s
   unfolding symbolOf
   led-symbol {s} l h = number-of xs s h (led-same l)
 
 -- ---- what the number tells
 module _ (low high : List ℕ) (m : ℕ) where
   abbrev test : Bool
-  test = leadTest low high (prefixLength (length low) m) (permutationOf low)
+  test = sureTest low high (prefixLength (length low) m)
 
   abbrev later : ℕ
   later = orElse (unsureOf low high (prefixLength (length low) m)) (idleOf (length low) m (permutationOf low))
@@ -140,24 +141,24 @@ symbol-exactly low high m {r} e =
     let xs : List ℕ = permutationOf low in
     let p : ℕ = prefixLength (length low) m in
     record {
-      given = λ z.
+      given-led = λ z.
           let t = done-symbol low high m (sym number ∙ z) in
           let s : r .symbol ≡ symbolOf (length low) m xs = rw (e, sym number ∙ z) in
           (t .0, omega (arith, t .2, s), rw (s, codes (t .0) .reads xs (permutationOf-permutation low) .1) (sure-led (t .0) (t .1)));
-      sure = λ k s less l.
+      led-given = λ k s less l.
           let is : symbolOf (length low) m xs ≡ s = led-symbol k l (omega (arith, codes k .enough)) in
-          e ∙ sym (sure-symbol-led k (led-sure k l)) ∙ sym (led-done (length low) m xs (sym is) less);
-      idled = λ z.
+          e ∙ sym (sure-symbol-given k (led-sure k l)) ∙ sym (code-read-done (length low) m xs (sym is) less);
+      idle-led = λ z.
           let t = idle-symbol low high m (sym number ∙ z) in
           (t .0, record { prefix = take p xs; led = sure-led (t .0) (t .1); idle = omega (arith, t .2, number-led (t .0) (take p xs) (take-take p p xs (omega arith))) });
-      idle = λ k i.
+      led-idle = λ k i.
           let same : take p (i .prefix) ≡ take p xs = ap (take p) (sym (led-same k (i .led))) ∙ take-take p p xs (omega arith) in
-          e ∙ sym (sure-symbol-led k (led-sure k (i .led))) ∙ sym (led-idle (length low) m xs refl (omega (arith, i .idle, number-led k (i .prefix) same)));
-      refused = λ z.
+          e ∙ sym (sure-symbol-given k (led-sure k (i .led))) ∙ sym (code-read-idle (length low) m xs refl (omega (arith, i .idle, number-led k (i .prefix) same)));
+      unsure-none = λ z.
           let t = unsure-symbol low high m (sym number ∙ z) in
           (t .0, λ q l. false≢true (sym (t .1) ∙ led-sure (t .0) l));
-      unsure = λ k none.
-          by-test (leadTest low high p xs)
+      none-unsure = λ k none.
+          by-test (sureTest low high p)
           (λ t. absurd (none (take p xs) (sure-led k t)))
           (λ t. e ∙ sym (sure-symbol-refused low high m (sure-symbol-unsure k t) (λ z. omega arith)));
     }

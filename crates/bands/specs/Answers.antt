@@ -16,7 +16,7 @@ use Rattle.permutation.specs.declared.answers.Permuted.{Permuted}
 use Rattle.symbols.specs.Answers.{codeOf, idleOf}
 use Rattle.symbols.specs.declared.answers.Symbol.{Symbol}
 use Rattle.bands.specs.Bands.{Bands, SureOrder, SureLead}
-use Rattle.bands.specs.LeadTest.{leadTest}
+use Rattle.bands.specs.LeadTest.{sureTest}
 
 -- is no lowest level above its highest?
 unfoldable pub noneAbove : List ℕ → List ℕ → Bool
@@ -30,7 +30,7 @@ bandsNumber low high = orElse (sizeOf (length low)) (orElse (cond (eqb (length h
 
 -- "10 unsure, when the condition fails": the first p cells, by lowest level, do not lead in every choice
 abbrev pub unsureOf : List ℕ → List ℕ → ℕ → ℕ
-unsureOf low high p = cond (leadTest low high p (permutationOf low)) done unsure
+unsureOf low high p = cond (sureTest low high p) done unsure
 
 -- bands that are taken
 pub record Banded (low high : List ℕ) : Type 0 where
@@ -49,11 +49,11 @@ sureAnswer low high = permuted (sureNumber low high) (permutationOf low)
 
 -- "The order is given exactly when every choice of one level from each band has no tie and yields that same order."
 pub record OrderExactly (low high : List ℕ) (r : Permuted) : Type 0 where
-  pub given : r .number ≡ 0 → Banded low high × SureOrder low high (listOf (r .permutation))
-  pub sure : Banded low high → (xs : List ℕ) → SureOrder low high xs → r ≡ permuted 0 xs
+  pub given-sure : r .number ≡ 0 → Banded low high × SureOrder low high (listOf (r .permutation))
+  pub sure-given : Banded low high → (xs : List ℕ) → SureOrder low high xs → r ≡ permuted 0 xs
   -- "10 unsure, when the condition fails"
-  pub refused : r .number ≡ 10 → Banded low high × ((xs : List ℕ) → SureOrder low high xs → ⊥)
-  pub unsure : Banded low high → ((xs : List ℕ) → SureOrder low high xs → ⊥) → r ≡ noPermutation 10
+  pub unsure-none : r .number ≡ 10 → Banded low high × ((xs : List ℕ) → SureOrder low high xs → ⊥)
+  pub none-unsure : Banded low high → ((xs : List ℕ) → SureOrder low high xs → ⊥) → r ≡ noPermutation 10
 
 -- ---- a symbol of m
 
@@ -77,22 +77,22 @@ sureSymbolAnswer low high m = record {
 }
 
 -- "in every choice, the same p cells lead in the same sequence", which is q, for the p of a code of m symbols
-abbrev pub Led : List ℕ → List ℕ → ℕ → List ℕ → Type 0
-Led low high m q = SureLead low high (prefixLength (length low) m) q
+abbrev pub LedSurely : List ℕ → List ℕ → ℕ → List ℕ → Type 0
+LedSurely low high m q = SureLead low high (prefixLength (length low) m) q
 
 -- the cells that lead in every choice are no symbol's prefix: theirs "has number m or higher"
 pub record LedIdle (low high : List ℕ) (m : ℕ) : Type 0 where
   pub prefix : List ℕ
-  pub led : Led low high m prefix
+  pub led : LedSurely low high m prefix
   pub idle : m ≤ prefixNumber (length low) (prefixLength (length low) m) prefix
 
 -- "Where it isn't idle, it is given exactly when, in every choice, the same p cells lead in the same sequence"
 pub record SymbolExactly (low high : List ℕ) (m : ℕ) (r : Symbol) : Type 0 where
-  pub given : r .number ≡ 0 → BandedCode low high m × (r .symbol < m) × Led low high m (symbolPrefix (length low) m (r .symbol))
-  pub sure : BandedCode low high m → (s : ℕ) → s < m → Led low high m (symbolPrefix (length low) m s) → r ≡ record { number = 0; symbol = s }
+  pub given-led : r .number ≡ 0 → BandedCode low high m × (r .symbol < m) × LedSurely low high m (symbolPrefix (length low) m (r .symbol))
+  pub led-given : BandedCode low high m → (s : ℕ) → s < m → LedSurely low high m (symbolPrefix (length low) m s) → r ≡ record { number = 0; symbol = s }
   -- idle is said of a prefix that leads in every choice, and of no other
-  pub idled : r .number ≡ 7 → BandedCode low high m × LedIdle low high m
-  pub idle : BandedCode low high m → LedIdle low high m → r ≡ record { number = 7; symbol = 0 }
+  pub idle-led : r .number ≡ 7 → BandedCode low high m × LedIdle low high m
+  pub led-idle : BandedCode low high m → LedIdle low high m → r ≡ record { number = 7; symbol = 0 }
   -- "10 unsure, when the condition fails"
-  pub refused : r .number ≡ 10 → BandedCode low high m × ((q : List ℕ) → Led low high m q → ⊥)
-  pub unsure : BandedCode low high m → ((q : List ℕ) → Led low high m q → ⊥) → r ≡ record { number = 10; symbol = 0 }
+  pub unsure-none : r .number ≡ 10 → BandedCode low high m × ((q : List ℕ) → LedSurely low high m q → ⊥)
+  pub none-unsure : BandedCode low high m → ((q : List ℕ) → LedSurely low high m q → ⊥) → r ≡ record { number = 10; symbol = 0 }

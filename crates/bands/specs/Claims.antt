@@ -29,7 +29,9 @@ pub record BandReading (low high : List ℕ) : Type 0 where
   pub one : Banded low high → sureSymbolAnswer low high 1 ≡ record { number = 0; symbol = 0 }
   -- all cells but one lead in every choice exactly where the order is sure
   pub last : Bands low high → (xs : List ℕ) → SureOrder low high xs → SureLead low high (length low - 1) (take (length low - 1) xs)
-  pub all : Bands low high → (q : List ℕ) → SureLead low high (length low - 1) q → SureOrder low high (permutationOf low)
+  pub all :
+      Bands low high → (q : List ℕ) → SureLead low high (length low - 1) q
+      → (take (length low - 1) (permutationOf low) ≡ q) × SureOrder low high (permutationOf low)
 
 -- a tie touches the first p cells, by level: one of them has the level of a cell after it
 pub record Touches (L : List ℕ) (p : ℕ) : Type 0 where

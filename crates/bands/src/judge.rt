@@ -3,7 +3,8 @@ ghost use mathlib.Core.Path.{_≡_};
 ghost use mathlib.Core.Bool.{_&&_};
 ghost use lib.Dec.{leb, ltb};
 ghost use lib.ListN.{length, take};
-ghost use Rattle.bands.specs.LeadTest.{leadTest, Testable};
+ghost use Rattle.symbols.specs.AnyPrefix.{PrefixRow};
+ghost use Rattle.bands.specs.LeadTest.{leadTest};
 ghost use Rattle.bands.specs.Answers.{noneAbove, bandsNumber};
 use charge::judge::larger;
 use permutation::cell::wide;
@@ -58,7 +59,7 @@ fn falls_short(i: usize, p: usize, level: u16, bound: u16) -> bool
 
 // Do the first p of the cells lead in every choice? From the bottom up, the bound is the highest level of the cells passed.
 pub fn lead_surely(lowest: &[u16], highest: &[u16], cells: &[u8; 20], p: usize) -> bool
-    requires { ⌜ Testable (now lowest) (now highest) (now cells) p ⌝ }
+    requires { ⌜ PrefixRow (now lowest) (now cells) p × (length (now highest) ≡ length (now lowest)) ⌝ }
     ensures { λ r. ⌜ r ≡ leadTest (now (lowest .entry)) (now (highest .entry)) p (take (length (now (lowest .entry))) (now (cells .entry))) ⌝ }
 {
     let mut bound: u16 = 0;

@@ -1,5 +1,5 @@
 -- What a job on levels answers, by its number, and spends, and what a count-up call is judged by. Assumes nothing.
-use mathlib.Core.Path.{_≡_, sym, ap, ap₂, _∙_}
+use mathlib.Core.Path.{_≡_, sym, ap, _∙_}
 use mathlib.Core.Bool.{_&&_, and-eq-true-iff}
 use mathlib.Core.List.{List, []}
 use Prim.Native.Nat.{ℕ, _+_, _-_, _≤_, _<_}
@@ -18,12 +18,14 @@ use Rattle.theory.proofs.Refusal.{ceiling-refused, ceiling-done, ceiling-room}
 use Rattle.theory.proofs.Members.{entry-inside}
 use Rattle.theory.proofs.Sorting.{permutationOf-permutation, permutationOf-length}
 use Rattle.theory.proofs.Spent.{push-sum, given-sum, spending}
+use Rattle.permutation.specs.declared.answers.Permutation.{Permutation}
 use Rattle.permutation.specs.declared.answers.Permuted.{Permuted}
 use Rattle.permutation.proofs.Answering.{permutedWith}
 use Rattle.charge.specs.declared.answers.Pushes.{Pushes}
 use Rattle.charge.specs.declared.judge.Call.{Call}
 use Rattle.charge.specs.Counting.{callJudged}
 use Rattle.charge.specs.Answers.{noPushes, donePushes, pushesOf, readAnswer, placeNumber, placeAnswer, placeLevels, callAnswer}
+use Rattle.charge.proofs.Sorting.{row-record}
 
 -- ---- a job that pushes, by its number: k pushes, which spend this charge and leave the levels L′, or none, and the levels L as they were
 
@@ -88,7 +90,7 @@ pub read-sorted : {L cells : List ℕ} → Readable L → cells ≡ row (permuta
     → _≡_ {A = Permuted} (record { number = 0; permutation = record { n = length L; cells = cells } }) (readAnswer L)
 unfolding readAnswer
 read-sorted {L} r e =
-    ap₂ (λ (n : ℕ) (l : List ℕ). record { number = 0; permutation = record { n = n; cells = l } }) (sym (permutationOf-length L)) e
+    ap (λ (p : Permutation). record { number = 0; permutation = p }) (row-record L (r .many) e)
     ∙ answered permutedWith (permutationOf L) [] (read-done r)
 
 -- ---- a call of count up with k

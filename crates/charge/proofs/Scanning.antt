@@ -13,7 +13,7 @@ use Rattle.theory.specs.Levels.{highest, lowest, tied}
 use Rattle.theory.specs.Spent.{levelSum}
 
 module _ (L : List ℕ) (i : ℕ) (h : i < length L) where
-  ahead : drop i L ≡ getD L i 0 ∷ drop (i + 1) L
+  pub ahead : drop i L ≡ getD L i 0 ∷ drop (i + 1) L
   ahead = drop-cons L i 0 h ∙ rw (add-one i)
 
   pub member-here : (x : ℕ) → x ≡ getD L i 0 → member x (drop i L) ≡ true

@@ -4,7 +4,7 @@ ghost use Rattle.theory.specs.Refusal.{sizeWithin};
 
 // "n is below 2 or above 20": no group has that many cells
 pub const SIZE: u8 = 1;
-// another n than the group's, or a lent list that is too short
+// another n than the group's, two lists of different length, or a lent list that is too short
 pub const FIT: u8 = 2;
 // no permutation
 pub const MUDDLE: u8 = 3;

@@ -39,6 +39,7 @@ pub fn on_bands(text: &mut Text, at: usize, job: u8, numbers: &Numbers, count: u
     if count < middle {
         return at;
     }
+    // a row for each list: the borrow checker does not cover two parts of one row that are lent to one call
     let lowest = levels_from(numbers);
     let highest = levels_from(numbers);
     on_lists(

@@ -1,5 +1,6 @@
 -- Laws that the proofs of the functions use.
 pub mod Lengths
+pub mod Codes
 pub mod Writing
 pub mod Choosing
 pub mod Prefixing

@@ -1,32 +1,33 @@
 -- What each way out of the row of a symbol answers: a number where there is none, or its prefix with the other names behind it; and its prefix alone.
 -- Assumes nothing.
 use mathlib.Core.Path.{_≡_, refl, sym, _∙_}
-use mathlib.Core.Bool.{true, cond, _&&_, and-false, and-eq-true-iff}
+use mathlib.Core.Bool.{cond}
 use mathlib.Core.List.{List, _++_, append-assoc}
 use Prim.Native.Nat.{ℕ, _≤_, _<_}
 use native.Mathlib.Omega.{arith}
-use borrow.Author.Tests.{ne-eqb, leb-true, le-leb, lt-leb, ltb-true, lt-ltb, le-ltb}
-use lib.Dec.{leb, ltb}
+use borrow.Author.Tests.{ne-eqb, ltb-true, lt-ltb, le-ltb}
+use lib.Dec.{ltb}
 use lib.ListN.{length, take, drop, replicate, length-append, length-drop}
 use lib.Seq.{take-at, drop-at}
 use Rattle.theory.specs.Reasons.{done, size, value}
-use Rattle.theory.specs.Refusal.{sizeOf}
+use Rattle.theory.specs.Refusal.{orElse, sizeOf}
 use Rattle.theory.specs.Factorial.{factorial, falling}
 use Rattle.theory.specs.Permutation.{IsPermutation, row}
 use Rattle.theory.specs.Lists.{names, without}
 use Rattle.theory.specs.Prefix.{IsPrefix, prefixAt, prefixLength, symbolPrefix}
 use Rattle.theory.proofs.Refusal.{orElse-refused, orElse-done, tested, size-done, size-range}
 use Rattle.theory.proofs.Factorials.{falling-quotient}
-use Rattle.theory.proofs.Cases.{by-name}
+use Rattle.theory.proofs.Cases.{by-test, by-name}
 use Rattle.theory.proofs.Padding.{padding}
 use Rattle.theory.proofs.FilledRow.{over-row}
 use Rattle.theory.proofs.Names.{names-length, names-permutation}
 use Rattle.theory.proofs.Prefixes.{names-distinct, prefix-over, prefixAt-prefix, coding}
 use Rattle.theory.proofs.Storing.{others-below}
-use Rattle.symbols.specs.Answers.{coded, codeNumber, prefixAnswer}
+use Rattle.symbols.specs.Answers.{coded, codeOf, codeNumber, prefixAnswer}
 use Rattle.symbols.specs.AnyPrefix.{rowAnswer}
 use Rattle.symbols.specs.declared.answers.Prefixed.{Prefixed}
 use Rattle.symbols.proofs.Writing.{cleared}
+use Rattle.symbols.proofs.Codes.{code-many, code-done, code-range}
 
 abbrev zeros : List ℕ
 zeros = replicate 20 0
@@ -48,11 +49,11 @@ module _ (n m s : ℕ) where
   module _ (sized : sizeOf n ≡ 0) where
     pub too-large : factorial n < m → value ≡ codeNumber n m s
     unfolding codeNumber
-    too-large h = rw (sized, lt-leb m (factorial n) h, and-false (leb 1 m))
+    too-large h = rw sized (orElse-refused (codeOf n m) (cond (ltb s m) done value) (code-many n m h) (λ z. omega arith))
 
     pub no-symbol : m ≤ s → value ≡ codeNumber n m s
     unfolding codeNumber
-    no-symbol h = rw (sized, le-ltb s m h, and-false)
+    no-symbol h = by-test (coded n m) (λ e. rw (sized, e, le-ltb s m h)) (λ e. rw (sized, e))
 
 -- ---- the prefix of symbol s of m on n cells
 pub record Coded (n m s : ℕ) : Type 0 where
@@ -61,8 +62,8 @@ pub record Coded (n m s : ℕ) : Type 0 where
   pub most : m ≤ factorial n
   pub below : s < m
 
-pub coded-right : {n m s : ℕ} → Coded n m s → coded n m ≡ true
-coded-right {n} {m} v = rw (le-leb 1 m (omega (arith, v .below)), le-leb m (factorial n) (v .most))
+pub coded-right : {n m s : ℕ} → Coded n m s → codeOf n m ≡ done
+coded-right {n} {m} v = code-done n m (omega (arith, v .below)) (v .most)
 
 prefix-done : {n m s : ℕ} → Coded n m s → codeNumber n m s ≡ done
 unfolding codeNumber
@@ -72,11 +73,10 @@ prefix-done {n} {m} {s} v = rw (size-done n (v .few) (v .many), coded-right v, l
 pub in-range : {n m s : ℕ} → codeNumber n m s ≡ done → Coded n m s
 unfolding codeNumber
 in-range {n} {m} {s} h =
-    let past = orElse-done (sizeOf n) (cond (coded n m && ltb s m) done value) h in
+    let past = orElse-done (sizeOf n) (orElse (codeOf n m) (cond (ltb s m) done value)) h in
     let size = size-range n (past .0) in
-    let b = and-eq-true-iff (coded n m) (ltb s m) .0 (tested (coded n m && ltb s m) (λ z. omega arith) (past .1)) in
-    let most = and-eq-true-iff (leb 1 m) (leb m (factorial n)) .0 (b .0) .1 in
-    record { few = size .0; many = size .1; most = leb-true m (factorial n) most; below = ltb-true s m (b .1) }
+    let code = orElse-done (codeOf n m) (cond (ltb s m) done value) (past .1) in
+    record { few = size .0; many = size .1; most = code-range n m (code .0) .1; below = ltb-true s m (tested (ltb s m) (λ z. omega arith) (code .1)) }
 
 -- p is its length
 module _ {n m s : ℕ} (v : Coded n m s) {p : ℕ} (e : p ≡ prefixLength n m) where

@@ -33,7 +33,7 @@ use Rattle.charge.proofs.ReadLevels.{row-readable}
 use Rattle.rewriting.specs.Raising.{Pushable, raised}
 use Rattle.symbols.specs.declared.answers.Prefixed.{Prefixed}
 use Rattle.symbols.specs.Answers.{codeNumber, prefixOn, pushesFor, leadNumber, leadAnswer, leadLevels, storeNumber, storeAnswer, storeLevels, symbolNumber, symbolAnswer, LedBy, StoreOf}
-use Rattle.symbols.specs.AnyPrefix.{rowAnswer, Storable, FallsFrom}
+use Rattle.symbols.specs.AnyPrefix.{rowAnswer, PrefixRow, FallsFrom}
 use Rattle.symbols.proofs.Along.{tied-row}
 use Rattle.symbols.proofs.Leading.{count-is}
 use Rattle.symbols.proofs.Prefixing.{Coded, coded-right, in-range, row-permutation}
@@ -83,7 +83,7 @@ module _ (code : ℕ) (L q : List ℕ) where
   lead-code z e ne = rw z (orElse-refused code _ e ne)
 
 -- as it stands in its row
-module _ {L cells : List ℕ} {p : ℕ} (v : Storable L cells p) where
+module _ {L cells : List ℕ} {p : ℕ} (v : PrefixRow L cells p) where
   whole-long : length (take (length L) cells) ≡ length L
   whole-long = v .permutation .long
 
@@ -233,9 +233,9 @@ module _ (L : List ℕ) (m s : ℕ) {found : Prefixed} (e : found ≡ rowAnswer 
       let q : List ℕ = prefixOn L m s in
       rw (cells-are, length-is, append-assoc q (without q (names (length L))) _) (take-at q _ (prefixLength (length L) m) (prefix-of .long))
 
-  pub found-storable : Storable L (found .cells) (found .length)
+  pub found-prefix-row : PrefixRow L (found .cells) (found .length)
   unfolding symbolPrefix
-  found-storable =
+  found-prefix-row =
       let all = row-permutation codes refl in
       let cells : List ℕ = prefixOn L m s ++ without (prefixOn L m s) (names (length L)) in
       record {

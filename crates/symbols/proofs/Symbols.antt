@@ -1,19 +1,16 @@
--- Reading a symbol: what a code is judged by, what a record of a permutation is read as, and what each way out answers, by the tests that the code makes.
--- Assumes nothing.
-use mathlib.Core.Path.{_≡_, sym, ap, _∙_}
-use mathlib.Core.Bool.{and-eq-true-iff, and-false}
+-- Reading a symbol: what a record of a permutation is read as by a code, and what each way out answers, by the tests that the code makes. Assumes nothing.
+use mathlib.Core.Path.{_≡_, ap, _∙_}
 use mathlib.Core.List.{List}
 use Prim.Native.Nat.{ℕ, _≤_, _<_}
 use native.Mathlib.Omega.{arith}
-use borrow.Author.Tests.{le-leb, lt-leb, leb-true, lt-ltb, le-ltb}
-use lib.Dec.{leb}
+use borrow.Author.Tests.{lt-ltb, le-ltb}
 use lib.ListN.{length}
-use Rattle.theory.specs.Reasons.{value, idle}
+use Rattle.theory.specs.Reasons.{idle}
 use Rattle.theory.specs.Factorial.{factorial}
 use Rattle.theory.specs.Levels.{permutationOf, readNumber}
 use Rattle.theory.specs.Prefix.{prefixNumber, prefixLength, symbolOf}
 use Rattle.theory.proofs.Prefixes.{coding}
-use Rattle.theory.proofs.Refusal.{refused, orElse-refused, tested}
+use Rattle.theory.proofs.Refusal.{refused, orElse-refused}
 use Rattle.theory.proofs.Sorting.{permutationOf-permutation, permutationOf-length}
 use Rattle.permutation.specs.Records.{listOf, recordOf, recordNumber}
 use Rattle.permutation.specs.Spots.{checked}
@@ -22,41 +19,10 @@ use Rattle.permutation.specs.declared.validity.Checked.{Checked}
 use Rattle.permutation.proofs.Records.{Sound, fault-record}
 use Rattle.permutation.proofs.Answering.{list-record}
 use Rattle.permutation.proofs.Checking.{check-spots}
-use Rattle.symbols.specs.Answers.{coded, codeOf, symbolNumber, symbolAnswer}
-use Rattle.symbols.specs.ByCode.{codeJudged, ledAnswer}
+use Rattle.symbols.specs.Answers.{codeOf, symbolNumber, symbolAnswer}
+use Rattle.symbols.specs.ByCode.{codeRead}
 use Rattle.symbols.specs.PrefixDigits.{RowSpots}
 use Rattle.symbols.specs.declared.answers.Symbol.{Symbol}
-use Rattle.symbols.specs.declared.code.Code.{Code}
-
--- ---- the number of a code of m symbols on n cells
-
-module _ (n m : ℕ) where
-  pub code-none : m < 1 → value ≡ codeOf n m
-  code-none h = rw (lt-leb 1 m h)
-
-  pub code-many : factorial n < m → value ≡ codeOf n m
-  code-many h = rw (lt-leb m (factorial n) h, and-false (leb 1 m))
-
-  pub code-done : 1 ≤ m → m ≤ factorial n → codeOf n m ≡ 0
-  code-done low high = rw (le-leb 1 m low, le-leb m (factorial n) high)
-
-  pub code-range : codeOf n m ≡ 0 → (1 ≤ m) × (m ≤ factorial n)
-  code-range z =
-      let t = and-eq-true-iff (leb 1 m) (leb m (factorial n)) .0 (tested (coded n m) (λ e. omega arith) z) in
-      (leb-true 1 m (t .0), leb-true m (factorial n) (t .1))
-
--- what a judge says of it
-module _ (n m : ℕ) {code : Code} (e : code ≡ codeJudged n m) where
-  pub judged-number : code .number ≡ codeOf n m
-  unfolding codeJudged
-  judged-number = ap (λ (k : Code). k .number) e
-
-  pub judged-range : code .number ≡ 0 → (1 ≤ m) × (m ≤ factorial n)
-  judged-range z = code-range n m (sym judged-number ∙ z)
-
-  pub judged-length : code .number ≡ 0 → code .length ≡ prefixLength n m
-  unfolding codeJudged
-  judged-length z = ap (λ (k : Code). k .length) e ∙ rw (sym judged-number ∙ z)
 
 -- ---- a record that is read by its spots
 
@@ -80,26 +46,26 @@ symbol-is n m xs e l = cc e
 
 -- the answer by the symbol
 module _ (n m : ℕ) (xs : List ℕ) {s : ℕ} (e : s ≡ symbolOf n m xs) where
-  pub led-idle : m ≤ s → symbolWith idle 0 ≡ ledAnswer n m xs
-  unfolding ledAnswer
-  led-idle h = rw (le-ltb (symbolOf n m xs) m (omega (arith, e)))
+  pub code-read-idle : m ≤ s → symbolWith idle 0 ≡ codeRead n m xs
+  unfolding codeRead
+  code-read-idle h = rw (le-ltb (symbolOf n m xs) m (omega (arith, e)))
 
-  pub led-done : s < m → symbolWith 0 s ≡ ledAnswer n m xs
-  unfolding ledAnswer
-  led-done h = rw (lt-ltb (symbolOf n m xs) m (omega (arith, e)), e)
+  pub code-read-done : s < m → symbolWith 0 s ≡ codeRead n m xs
+  unfolding codeRead
+  code-read-done h = rw (lt-ltb (symbolOf n m xs) m (omega (arith, e)), e)
 
 -- ---- a record that holds the permutation of levels
 module _ (L : List ℕ) {r : Permutation} (few : 2 ≤ length L) (many : length L ≤ 20) (is : r ≡ recordOf (permutationOf L)) where
   size-is : r .n ≡ length L
   size-is = ap (λ (p : Permutation). p .n) is ∙ permutationOf-length L
 
-  pub readable-by : {p : ℕ} (m : ℕ) → m ≤ factorial (length L) → p ≡ prefixLength (length L) m
+  pub record-asked : {p : ℕ} (m : ℕ) → m ≤ factorial (length L) → p ≡ prefixLength (length L) m
       → (recordNumber r ≡ 0) × (m ≤ factorial (r .n)) × (p ≡ prefixLength (r .n) m)
-  readable-by m fits e =
+  record-asked m fits e =
       (rw is (fault-record (length L) (permutationOf L) few many (permutationOf-permutation L)), rw size-is fits, rw size-is e)
 
-  pub led-by : (m : ℕ) {a : Symbol} → a ≡ ledAnswer (r .n) m (listOf r) → a ≡ ledAnswer (length L) m (permutationOf L)
-  led-by m e = e ∙ rw (is, list-record (length L) (permutationOf L) few many (permutationOf-permutation L), permutationOf-length L)
+  pub record-read : (m : ℕ) {a : Symbol} → a ≡ codeRead (r .n) m (listOf r) → a ≡ codeRead (length L) m (permutationOf L)
+  record-read m e = e ∙ rw (is, list-record (length L) (permutationOf L) few many (permutationOf-permutation L), permutationOf-length L)
 
 -- ---- what is answered
 module _ (L : List ℕ) (m : ℕ) where
@@ -116,6 +82,6 @@ module _ (L : List ℕ) (m : ℕ) where
     unfolding symbolNumber
     symbol-code e ne = rw read (orElse-refused (codeOf (length L) m) _ e ne)
 
-    pub symbol-led : codeOf (length L) m ≡ 0 → ledAnswer (length L) m (permutationOf L) ≡ symbolAnswer L m
-    unfolding symbolAnswer symbolNumber ledAnswer
-    symbol-led z = rw (read, z)
+    pub symbol-given : codeOf (length L) m ≡ 0 → codeRead (length L) m (permutationOf L) ≡ symbolAnswer L m
+    unfolding symbolAnswer symbolNumber codeRead
+    symbol-given z = rw (read, z)

@@ -31,7 +31,7 @@ codeOf n m = cond (coded n m) done value
 
 -- "symbol at or above m" is value too
 unfoldable pub codeNumber : ℕ → ℕ → ℕ → ℕ
-codeNumber n m s = orElse (sizeOf n) (cond (coded n m && ltb s m) done value)
+codeNumber n m s = orElse (sizeOf n) (orElse (codeOf n m) (cond (ltb s m) done value))
 
 -- "Symbol s, 0 to m - 1, is prefix number s of that length"; its length beside it, and 0 past it in a row of twenty
 unfoldable pub prefixAnswer : ℕ → ℕ → ℕ → Prefixed

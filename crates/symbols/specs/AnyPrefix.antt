@@ -21,7 +21,7 @@ rowAnswer n m s = record {
 }
 
 -- the cells of L lead the row, each once; its first p are a prefix, and others follow it
-pub record Storable (L cells : List ℕ) (p : ℕ) : Type 0 where
+pub record PrefixRow (L cells : List ℕ) (p : ℕ) : Type 0 where
   pub few : 2 ≤ length L
   pub many : length L ≤ 20
   pub long : length cells ≡ 20

@@ -1,4 +1,5 @@
--- What a code is judged by, and what a permutation is read as by it. Only inner contracts cite these, in other crates too. Assumes nothing.
+-- What a code is judged by, and what a permutation is read as by it. Only inner contracts cite these; their functions serve other crates
+-- too. Assumes nothing.
 use mathlib.Core.List.{List}
 use Prim.Native.Nat.{ℕ}
 use Rattle.theory.specs.Prefix.{prefixLength, symbolOf}
@@ -12,5 +13,5 @@ unfoldable pub codeJudged : ℕ → ℕ → Code
 codeJudged n m = record { number = codeOf n m; length = given (codeOf n m) (prefixLength n m) 0 }
 
 -- idle, or the symbol whose prefix leads the permutation
-unfoldable pub ledAnswer : ℕ → ℕ → List ℕ → Symbol
-ledAnswer n m xs = record { number = idleOf n m xs; symbol = given (idleOf n m xs) (symbolOf n m xs) 0 }
+unfoldable pub codeRead : ℕ → ℕ → List ℕ → Symbol
+codeRead n m xs = record { number = idleOf n m xs; symbol = given (idleOf n m xs) (symbolOf n m xs) 0 }

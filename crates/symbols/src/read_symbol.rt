@@ -5,7 +5,7 @@ ghost use Rattle.theory.specs.Factorial.{factorial};
 ghost use Rattle.theory.specs.Prefix.{prefixLength};
 ghost use Rattle.permutation.specs.Records.{listOf, recordNumber};
 ghost use Rattle.symbols.specs.Answers.{symbolAnswer};
-ghost use Rattle.symbols.specs.ByCode.{ledAnswer};
+ghost use Rattle.symbols.specs.ByCode.{codeRead};
 use super::answers::Symbol;
 use super::code::judge_code;
 use super::number::prefix_number;
@@ -14,17 +14,17 @@ use permutation::answers::Permutation;
 use permutation::reasons::IDLE;
 use permutation::validity::check;
 
-// For other crates too.
+// A job that was to answer a symbol is refused. For other crates too.
 pub fn no_symbol(number: u8) -> Symbol
     ensures { λ r. ⌜ r ≡ record { number = number; symbol = 0 } ⌝ }
 {
     Symbol { number, symbol: 0 }
 }
 
-// A permutation is read by a code of m symbols, whose prefixes have p cells. For other crates too: it asks that they are.
+// A permutation is read by a code of m symbols. For other crates too: it asks for a permutation, an m of at most n!, and the length p of the code's prefixes.
 pub fn leading_symbol(permutation: Permutation, m: u64, p: usize) -> Symbol
     requires { ⌜ (recordNumber permutation ≡ 0) × (m ≤ factorial (permutation .n)) × (p ≡ prefixLength (permutation .n) m) ⌝ }
-    ensures { λ r. ⌜ r ≡ ledAnswer (permutation .n) m (listOf permutation) ⌝ }
+    ensures { λ r. ⌜ r ≡ codeRead (permutation .n) m (listOf permutation) ⌝ }
 {
     let n = permutation.n;
     let cells = permutation.cells;

@@ -7,7 +7,7 @@ ghost use Rattle.theory.specs.Permutation.{IsPermutation};
 ghost use Rattle.theory.specs.Levels as meaning;
 ghost use Rattle.theory.specs.Spent.{Spends};
 ghost use Rattle.symbols.specs.Answers.{leadAnswer, leadLevels, storeAnswer, storeLevels, LedBy, StoreOf};
-ghost use Rattle.symbols.specs.AnyPrefix.{Storable, FallsFrom};
+ghost use Rattle.symbols.specs.AnyPrefix.{PrefixRow, FallsFrom};
 use super::row::prefix_row;
 use charge::answers::Pushes;
 use charge::answers::no_pushes;
@@ -62,7 +62,7 @@ fn tied_along(along: &[u16], p: usize, r: usize) -> bool
 
 // Any prefix is stored: the first p cells of a row that has all cells, so that the levels need not be sorted.
 fn store_prefix(levels: &mut [u16], cells: &[u8; 20], p: usize) -> Pushes
-    requires { ⌜ Storable (now levels) (now cells) p ⌝ }
+    requires { ⌜ PrefixRow (now levels) (now cells) p ⌝ }
     ensures answer { λ r. ⌜ r ≡ leadAnswer 0 (now (levels .entry)) (take p (now (cells .entry))) ⌝ }
     ensures levels_left { λ _. ⌜ now (levels .exit) ≡ leadLevels 0 (now (levels .entry)) (take p (now (cells .entry))) ⌝ }
     ensures led { λ r. ⌜ (r .number ≡ 0 → LedBy (take p (now (cells .entry))) (now (levels .entry)) (now (levels .exit)) (r .pushes)) ⌝ }

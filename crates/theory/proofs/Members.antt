@@ -210,3 +210,7 @@ distinct-without a (x ∷ xs) d =
 -- each entry of a permutation is a cell
 pub entry-inside : {n : ℕ} {xs : List ℕ} → IsPermutation n xs → (i : ℕ) → i < length xs → (1 ≤ getD xs i 0) × (getD xs i 0 ≤ n)
 entry-inside {n} {xs} o i h = inside n xs o (getD xs i 0) (member-count (getD xs i 0) xs (member-getD xs i h))
+
+-- and each cell stands in it
+pub cell-member : {n : ℕ} {xs : List ℕ} → IsPermutation n xs → (c : ℕ) → (1 ≤ c) × (c ≤ n) → member c xs ≡ true
+cell-member {xs = xs} o c h = count-member c xs (omega (arith, o .once c (h .0) (h .1)))

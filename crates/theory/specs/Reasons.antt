@@ -11,7 +11,7 @@ done = 0
 abbrev pub size : ℕ
 size = 1
 
--- "target's n differs from the group's, or a push list has fewer than n - 1 bytes"
+-- "target's n differs from the group's, or a push list has fewer than n - 1 bytes"; document 02, request 4: "lists of different length are fit"
 abbrev pub fit : ℕ
 fit = 2
 
@@ -23,7 +23,7 @@ muddle = 3
 abbrev pub tie : ℕ
 tie = 4
 
--- "rank at or above n!; push place outside 2 to n; m outside 1 to n!; symbol at or above m"
+-- "rank at or above n!; push place outside 2 to n; m outside 1 to n!; symbol at or above m"; document 02, request 4: "a lowest above its highest is value"
 abbrev pub value : ℕ
 value = 5
 

@@ -1,5 +1,5 @@
 -- `bands::judge::lead_surely` meets its contract: what was found on the way up is that of the cells passed. Assumes nothing.
-use mathlib.Core.Path.{sym, _∙_}
+use mathlib.Core.Path.{_≡_, sym, _∙_}
 use Prim.Native.Nat.{_≤_}
 use native.Mathlib.Omega.{arith}
 use borrow.Author.Needs.{needs}
@@ -21,23 +21,23 @@ start c = c .before .before .before .before .before .before
 bounds : (c : tie.After-wide Inv-loop μ-loop) → (1 ≤ c .wide .result) × (c .wide .result ≤ length (start c .args .lowest .now))
 bounds c =
     let at = c .before .before in
-    let b = cell-bounds (start c .pre) (at .before .loop .inv) (at .loop-test .taken) in
+    let b = cell-bounds (start c .pre .0) (at .before .loop .inv) (at .loop-test .taken) in
     (omega (arith, b .0, c .wide .ensures), omega (arith, b .1, c .wide .ensures))
 
 loop-holds : tie.Need-loop-holds Inv-loop μ-loop
-loop-holds c = found-none (c .before .before .pre)
+loop-holds c = found-none (c .before .before .pre .0)
 
 sub-i : tie.Need-sub-i Inv-loop μ-loop
 sub-i c = search needs
 
 element-copy-out-wide : tie.Need-element-copy-out-wide Inv-loop μ-loop
-element-copy-out-wide c = let l = c .before in omega (arith, l .loop .inv .within, c .loop-test .taken, l .before .before .before .pre .many, l .before .before .before .pre .long)
+element-copy-out-wide c = let l = c .before in omega (arith, l .loop .inv .within, c .loop-test .taken, l .before .before .before .pre .0 .many, l .before .before .before .pre .0 .long)
 
 sub-falls-short : tie.Need-sub-falls-short Inv-loop μ-loop
 sub-falls-short c = bounds c .0
 
 mul-falls-short : tie.Need-mul-falls-short Inv-loop μ-loop
-mul-falls-short c = omega (arith, bounds c .1, start c .pre .many)
+mul-falls-short c = omega (arith, bounds c .1, start c .pre .0 .many)
 
 shared-slice-read-falls-short : tie.Need-shared-slice-read-falls-short Inv-loop μ-loop
 shared-slice-read-falls-short c = omega (arith, bounds (c .before))
@@ -47,16 +47,16 @@ returns c =
     let w = c .before .before .before in
     let at = w .before .before in
     let e = sym (c .before .falls-short .ensures) ∙ c .if1 .taken in
-    sym (found-not (start w .pre) (at .before .loop .inv) (at .loop-test .taken) (rw (w .wide .ensures) at e))
+    sym (found-not (start w .pre .0) (at .before .loop .inv) (at .loop-test .taken) (rw (w .wide .ensures) at e))
 
 sub-larger : tie.Need-sub-larger Inv-loop μ-loop
 sub-larger c = bounds (c .before .before .before) .0
 
 mul-larger : tie.Need-mul-larger Inv-loop μ-loop
-mul-larger c = let w = c .before .before .before in omega (arith, bounds w .1, start w .pre .many)
+mul-larger c = let w = c .before .before .before in omega (arith, bounds w .1, start w .pre .0 .many)
 
 shared-slice-read-larger : tie.Need-shared-slice-read-larger Inv-loop μ-loop
-shared-slice-read-larger c = let w = c .before .before .before .before in omega (arith, bounds w, start w .pre .same)
+shared-slice-read-larger c = let w = c .before .before .before .before in omega (arith, bounds w, start w .pre .1)
 
 loop-less : tie.Need-loop-less Inv-loop μ-loop
 loop-less c = search needs
@@ -66,10 +66,12 @@ loop-again c =
     let w = c .before .before .before .before .before in
     let at = w .before .before in
     let e = sym (c .before .before .before .falls-short .ensures) ∙ c .before .before .if1 .left in
-    rw (c .larger .ensures, w .wide .ensures) (found-more (start w .pre) (at .before .loop .inv) (at .loop-test .taken) (rw (w .wide .ensures) at e))
+    rw (c .larger .ensures, w .wide .ensures) (found-more (start w .pre .0) (at .before .loop .inv) (at .loop-test .taken) (rw (w .wide .ensures) at e))
 
 returns-2 : tie.Need-returns-2 Inv-loop μ-loop
-returns-2 c = sym (found-all (c .before .before .before .before .pre) (c .before .loop .inv) (c .loop-test .left))
+returns-2 c =
+    let none : c .before .loop .i ≡ 0 = omega (arith, c .loop-test .left) in
+    sym (found-all (c .before .before .before .before .pre .0) (rw none at (c .before .loop .inv)))
 
 pub lead-surely-spec : {M : Type 1} → statement M
 lead-surely-spec =

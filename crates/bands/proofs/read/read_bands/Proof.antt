@@ -5,11 +5,11 @@ use native.Mathlib.Omega.{arith}
 use lib.ListN.{length}
 use Rattle.theory.specs.Permutation.{row}
 use Rattle.theory.specs.Levels.{permutationOf}
-use Rattle.charge.proofs.Sorting.{sorted-row}
-use Rattle.bands.specs.LeadTest.{leadTest}
+use Rattle.charge.proofs.Sorting.{sorted-row, row-record}
+use Rattle.bands.specs.LeadTest.{sureTest}
 use Rattle.bands.specs.Answers.{Banded}
 use Rattle.bands.proofs.Judging.{banded}
-use Rattle.bands.proofs.Rows.{row-testable, row-tested, row-record}
+use Rattle.bands.proofs.Rows.{row-testable, row-tested}
 use Rattle.bands.proofs.Orders.{order-fault, order-unsure, order-done, order-exactly}
 use Rattle.bands.proofs.read.read_bands.Statement.{statement}
 use Rattle.bands.proofs.read.read_bands.Tie as tie
@@ -29,7 +29,7 @@ sorted c = sorted-row _ (faultless (past c) .many) (c .sort-cells .ensures)
 
 test-is : (c : tie.After-lead-surely)
     → let a = entry (past (c .before .before)) .args in
-    c .lead-surely .result ≡ leadTest (a .lowest .now) (a .highest .now) (length (a .lowest .now) - 1) (permutationOf (a .lowest .now))
+    c .lead-surely .result ≡ sureTest (a .lowest .now) (a .highest .now) (length (a .lowest .now) - 1)
 test-is c = let s = c .before .before in row-tested (faultless (past s)) (sorted s) _ refl (c .lead-surely .ensures)
 
 returns : tie.Need-returns
@@ -49,7 +49,7 @@ lead-surely-requires c κs = let b = faultless (past (c .before)) in row-testabl
 returns-2 : tie.Need-returns-2
 returns-2 c =
     let s = c .before .before .before in
-    let e = order-done (faultless (past s)) (sym (test-is (c .before)) ∙ c .if2 .taken) (row-record (faultless (past s)) (sorted s)) in
+    let e = order-done (faultless (past s)) (sym (test-is (c .before)) ∙ c .if2 .taken) (row-record _ (faultless (past s) .many) (sorted s)) in
     (e, order-exactly _ _ e)
 
 returns-3 : tie.Need-returns-3

@@ -5,13 +5,14 @@ use lib.ListN.{length}
 use Rattle.theory.specs.Permutation.{row}
 use Rattle.theory.specs.Levels.{permutationOf}
 use Rattle.theory.specs.Prefix.{prefixLength}
-use Rattle.charge.proofs.Sorting.{sorted-row}
-use Rattle.symbols.proofs.Symbols.{judged-number, judged-range, judged-length, readable-by, led-by}
-use Rattle.bands.specs.LeadTest.{leadTest}
+use Rattle.charge.proofs.Sorting.{sorted-row, row-record}
+use Rattle.symbols.proofs.Codes.{judged-number, judged-range, judged-length}
+use Rattle.symbols.proofs.Symbols.{record-asked, record-read}
+use Rattle.bands.specs.LeadTest.{sureTest}
 use Rattle.bands.specs.Answers.{Banded, BandedCode}
 use Rattle.bands.proofs.Judging.{banded}
-use Rattle.bands.proofs.Rows.{row-testable, row-tested, row-record}
-use Rattle.bands.proofs.Symbols.{short, sure-symbol-refused, sure-symbol-fault, sure-symbol-code, sure-symbol-unsure, sure-symbol-led, symbol-exactly}
+use Rattle.bands.proofs.Rows.{row-testable, row-tested}
+use Rattle.bands.proofs.Symbols.{short, sure-symbol-refused, sure-symbol-fault, sure-symbol-code, sure-symbol-unsure, sure-symbol-given, symbol-exactly}
 use Rattle.bands.proofs.read_symbol.read_symbol_bands.Statement.{statement}
 use Rattle.bands.proofs.read_symbol.read_symbol_bands.Tie as tie
 
@@ -43,7 +44,7 @@ sorted c = sorted-row _ (code (past c) .banded .many) (c .sort-cells .ensures)
 
 test-is : (c : tie.After-lead-surely)
     → let a = entry (judged (past (c .before .before)) .before) .args in
-    c .lead-surely .result ≡ leadTest (a .lowest .now) (a .highest .now) (prefixLength (length (a .lowest .now)) (a .m)) (permutationOf (a .lowest .now))
+    c .lead-surely .result ≡ sureTest (a .lowest .now) (a .highest .now) (prefixLength (length (a .lowest .now)) (a .m))
 test-is c =
     let s = c .before .before in
     row-tested (code (past s) .banded) (sorted s) _ (length-is (past s)) (c .lead-surely .ensures)
@@ -77,15 +78,15 @@ leading-symbol-requires : tie.Need-leading-symbol-requires
 leading-symbol-requires c κs =
     let s = c .before .before .before in
     let k = code (past s) in
-    readable-by _ (k .banded .few) (k .banded .many) (row-record (k .banded) (sorted s)) _ (k .most) (length-is (past s))
+    record-asked _ (k .banded .few) (k .banded .many) (row-record _ (k .banded .many) (sorted s)) _ (k .most) (length-is (past s))
 
 returns-3 : tie.Need-returns-3
 returns-3 c =
     let t = c .before .before in
     let s = t .before .before in
     let k = code (past s) in
-    let e = led-by _ (k .banded .few) (k .banded .many) (row-record (k .banded) (sorted s)) _ (c .leading-symbol .ensures)
-    ∙ sure-symbol-led k (sym (test-is t) ∙ c .before .if3 .taken) in
+    let e = record-read _ (k .banded .few) (k .banded .many) (row-record _ (k .banded .many) (sorted s)) _ (c .leading-symbol .ensures)
+    ∙ sure-symbol-given k (sym (test-is t) ∙ c .before .if3 .taken) in
     (e, symbol-exactly _ _ _ e)
 
 returns-4 : tie.Need-returns-4

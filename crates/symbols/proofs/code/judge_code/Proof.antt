@@ -10,7 +10,7 @@ use Rattle.theory.proofs.Refusal.{refused, answered}
 use Rattle.ranking.proofs.Table.{table-at}
 use Rattle.symbols.specs.ByCode.{codeJudged}
 use Rattle.symbols.specs.declared.code.Code.{Code}
-use Rattle.symbols.proofs.Symbols.{code-none, code-many, code-done}
+use Rattle.symbols.proofs.Codes.{code-none, code-many, code-done}
 use Rattle.symbols.proofs.code.judge_code.Statement.{statement}
 use Rattle.symbols.proofs.code.judge_code.Tie as tie
 

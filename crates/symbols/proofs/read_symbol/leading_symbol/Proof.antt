@@ -4,7 +4,7 @@ use borrow.Author.Needs.{needs}
 use Rattle.theory.specs.Prefix.{symbolOf}
 use Rattle.permutation.specs.Records.{listOf}
 use Rattle.permutation.proofs.Records.{sound}
-use Rattle.symbols.proofs.Symbols.{row-spots, symbol-is, led-idle, led-done}
+use Rattle.symbols.proofs.Symbols.{row-spots, symbol-is, code-read-idle, code-read-done}
 use Rattle.symbols.proofs.read_symbol.leading_symbol.Statement.{statement}
 use Rattle.symbols.proofs.read_symbol.leading_symbol.Tie as tie
 
@@ -20,10 +20,10 @@ found : (c : tie.After-prefix-number)
 found c = symbol-is _ _ _ (c .prefix-number .ensures) (c .before .before .before .before .before .before .pre .2)
 
 returns : tie.Need-returns
-returns c = c .no-symbol .ensures ∙ led-idle _ _ _ (found (c .before .before)) (c .before .if1 .taken)
+returns c = c .no-symbol .ensures ∙ code-read-idle _ _ _ (found (c .before .before)) (c .before .if1 .taken)
 
 returns-2 : tie.Need-returns-2
-returns-2 c = led-done _ _ _ (found (c .before)) (c .if1 .left)
+returns-2 c = code-read-done _ _ _ (found (c .before)) (c .if1 .left)
 
 pub leading-symbol-spec : {M : Type 1} → statement M
 leading-symbol-spec = tie.close (tie.spec (λ c κs. tt) prefix-number-requires (λ c κs. tt) returns returns-2)

@@ -4,7 +4,8 @@ use lib.ListN.{length}
 use Rattle.theory.proofs.Refusal.{read-done}
 use Rattle.charge.proofs.ReadLevels.{Standing, number-is, standing}
 use Rattle.symbols.specs.Answers.{codeOf}
-use Rattle.symbols.proofs.Symbols.{judged-number, judged-range, judged-length, readable-by, led-by, symbol-refused, symbol-fault, symbol-code, symbol-led}
+use Rattle.symbols.proofs.Codes.{judged-number, judged-range, judged-length}
+use Rattle.symbols.proofs.Symbols.{record-asked, record-read, symbol-refused, symbol-fault, symbol-code, symbol-given}
 use Rattle.symbols.proofs.read_symbol.read_symbol.Statement.{statement}
 use Rattle.symbols.proofs.read_symbol.read_symbol.Tie as tie
 
@@ -35,12 +36,12 @@ leading-symbol-requires c κs =
     let judged = c .before .before in
     let r = read (judged .before) in
     let e = judged .judge-code .ensures in
-    readable-by _ (r .levels .few) (r .levels .many) (r .is) _ (judged-range _ _ e (c .if2 .left) .1) (judged-length _ _ e (c .if2 .left))
+    record-asked _ (r .levels .few) (r .levels .many) (r .is) _ (judged-range _ _ e (c .if2 .left) .1) (judged-length _ _ e (c .if2 .left))
 
 returns-3 : tie.Need-returns-3
 returns-3 c =
     let r = read (c .before .before .before .before) in
-    led-by _ (r .levels .few) (r .levels .many) (r .is) _ (c .leading-symbol .ensures) ∙ symbol-led _ _ (read-done (r .levels)) (code (c .before))
+    record-read _ (r .levels .few) (r .levels .many) (r .is) _ (c .leading-symbol .ensures) ∙ symbol-given _ _ (read-done (r .levels)) (code (c .before))
 
 pub read-symbol-spec : {M : Type 1} → statement M
 read-symbol-spec =

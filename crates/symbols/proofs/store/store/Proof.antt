@@ -1,7 +1,7 @@
 -- `symbols::store::store` meets its contract: each test decides the number, and past them the prefix is stored. Assumes nothing.
 use mathlib.Core.Path.{sym, _∙_}
 use borrow.Author.Needs.{needs}
-use Rattle.symbols.proofs.Storing.{lead-fault, lead-code, row-number, store-refused, found-storable, found-stored}
+use Rattle.symbols.proofs.Storing.{lead-fault, lead-code, row-number, store-refused, found-prefix-row, found-stored}
 use Rattle.symbols.proofs.store.store.Statement.{statement}
 use Rattle.symbols.proofs.store.store.Tie as tie
 
@@ -26,7 +26,7 @@ returns-2 c =
 store-prefix-requires : tie.Need-store-prefix-requires
 store-prefix-requires c κs =
     let past = c .before .before .before in
-    found-storable _ _ _ (past .before .before .prefix-row .ensures) (past .if1 .left)
+    found-prefix-row _ _ _ (past .before .before .prefix-row .ensures) (past .if1 .left)
 
 same-length-3 : tie.Need-same-length-3
 same-length-3 c = search needs
