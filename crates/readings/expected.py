@@ -330,7 +330,7 @@ def check_charges(lines):
 def check_bands(lines):
     for line, expected in BANDS.items():
         assert answer(line).split(" : ")[1] == expected and line in lines
-    # comparing gives what every choice gives: for 2 and 3 cells all sequences of the bands' ends, and of 4 cells all bands of 4 levels
+    # comparing gives what every choice gives: for 2 and 3 cells all sequences of the bands' ends, and for 4 cells all bands over 4 levels
     for n, top in ((2, 3), (3, 5), (4, 3)):
         for bands in product([(low, high) for high in range(top + 1) for low in range(high + 1)], repeat=n):
             lows, highs = zip(*bands)

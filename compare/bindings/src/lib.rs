@@ -34,7 +34,7 @@ pub enum Reason {
     Value = 5,
     /// The highest level plus the job's pushes exceeds 65,535.
     Ceiling = 6,
-    /// The levels hold a prefix that is none of the m symbols'.
+    /// The prefix that leads is none of the m symbols'.
     Idle = 7,
     /// A bench sheet is ill-formed, as its text tells; or one to be written has no group, too many groups or commands, or a command whose group is not there.
     Sheet = 8,

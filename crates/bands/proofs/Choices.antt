@@ -17,16 +17,16 @@ use Rattle.bands.proofs.Above.{Above}
 
 -- ---- the cells of a permutation, by index
 module _ {n : ℕ} {xs : List ℕ} (o : IsPermutation n xs) (j : ℕ) where
-  pub here : j < n → (1 ≤ getD xs j 0) × (getD xs j 0 ≤ n)
-  here h = entry-inside o j (omega (arith, o .long))
+  pub cell-here : j < n → (1 ≤ getD xs j 0) × (getD xs j 0 ≤ n)
+  cell-here h = entry-inside o j (omega (arith, o .long))
 
   module _ (c : ℕ) (m : member c (drop (suc j) xs) ≡ true) where
-    pub after : (1 ≤ c) × (c ≤ n)
-    after = inside n xs o c (member-count c xs (member-drop c (suc j) xs m))
+    pub cell-after : (1 ≤ c) × (c ≤ n)
+    cell-after = inside n xs o c (member-count c xs (member-drop c (suc j) xs m))
 
     -- a cell after an index is not the one there
-    pub other : j < n → c ≡ getD xs j 0 → ⊥
-    other h e =
+    pub cell-other : j < n → c ≡ getD xs j 0 → ⊥
+    cell-other h e =
         let x : ℕ = getD xs j 0 in
         let d : Distinct (x ∷ drop (suc j) xs) = rw (drop-cons xs j 0 (omega (arith, o .long))) at (distinct-drop j xs (permutation-distinct o)) in
         false≢true (sym (distinct-head x (drop (suc j) xs) d) ∙ rw e at m)
@@ -63,18 +63,18 @@ module _ {low high : List ℕ} (b : Bands low high) where
   module _ {xs : List ℕ} (o : IsPermutation (length low) xs) (p : ℕ) (fits : p ≤ length low) where
     pub above-choices : Above low high p xs → (L : List ℕ) → Choice low high L → Above L L p xs
     above-choices a L k j c less m =
-        let x = here o j (omega arith) in
-        let d = after o j c m in
+        let x = cell-here o j (omega arith) in
+        let d = cell-after o j c m in
         omega (arith, a j c less m, k .from (getD xs j 0) (x .0) (x .1), k .to c (d .0) (d .1))
 
     pub choices-above : ((L : List ℕ) → Choice low high L → Above L L p xs) → Above low high p xs
     choices-above a j c less m =
         let within : j < length low = omega arith in
-        let x = here o j within in
+        let x = cell-here o j within in
         let L : List ℕ = lowered (getD xs j 0) (x .0) (x .1) in
         omega (
           arith,
           a L (lowered-choice (getD xs j 0) (x .0) (x .1)) j c less m,
           lowered-self (getD xs j 0) (x .0) (x .1),
-          lowered-other (getD xs j 0) (x .0) (x .1) c (after o j c m .0) (other o j c m within),
+          lowered-other (getD xs j 0) (x .0) (x .1) c (cell-after o j c m .0) (cell-other o j c m within),
         )

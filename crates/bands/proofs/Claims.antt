@@ -25,7 +25,7 @@ use Rattle.symbols.proofs.Symbols.{code-read-done, symbol-given}
 use Rattle.bands.specs.Bands.{Bands, Choice, SureOrder, SureLead}
 use Rattle.bands.specs.LeadTest.{leadTest, sureTest}
 use Rattle.bands.specs.Answers.{Banded, BandedCode, bandsNumber, sureNumber, sureAnswer, sureSymbolNumber, sureSymbolAnswer}
-use Rattle.bands.specs.Claims.{BandReading, Touches, OneLevel}
+use Rattle.bands.specs.Claims.{BandReading, TiedFirst, OneLevel}
 use Rattle.bands.proofs.Above.{Above, falls-above}
 use Rattle.bands.proofs.Leading.{leads-first}
 use Rattle.bands.proofs.Sure.{above-lead, lead-same, lead-above, above-order, order-same, order-above, tested-above, above-tested}
@@ -55,8 +55,8 @@ module _ (low high : List ℕ) where
 
 -- ---- every choice
 module _ {low high : List ℕ} (b : Bands low high) where
-  taken : sized (length low) ≡ true → Banded low high
-  taken s = let r = size-range (length low) (rw s) in record { few = r .0; many = r .1; bands = b }
+  sized-banded : sized (length low) ≡ true → Banded low high
+  sized-banded s = let r = size-range (length low) (rw s) in record { few = r .0; many = r .1; bands = b }
 
   -- lists of a wrong size are refused, as levels are
   module _ (s : sized (length low) ≡ false) {L : List ℕ} (k : Choice low high L) where
@@ -68,17 +68,17 @@ module _ {low high : List ℕ} (b : Bands low high) where
     unfolding symbolAnswer symbolNumber readNumber sureSymbolAnswer sureSymbolNumber bandsNumber
     sizeless-symbol m = rw (k .long, s)
 
-  readable : {L : List ℕ} → Banded low high → Choice low high L → tied L ≡ false → readNumber L ≡ 0
-  readable t k u = read-done (record { few = omega (arith, t .few, k .long); many = omega (arith, t .many, k .long); untied = u })
+  choice-read : {L : List ℕ} → Banded low high → Choice low high L → tied L ≡ false → readNumber L ≡ 0
+  choice-read t k u = read-done (record { few = omega (arith, t .few, k .long); many = omega (arith, t .many, k .long); untied = u })
 
   every-order : (sureNumber low high ≡ 10 → ⊥) → (L : List ℕ) → Choice low high L → readAnswer L ≡ sureAnswer low high
   unfolding readAnswer sureAnswer sureNumber
   every-order sure L k =
       by-test (sized (length low))
       (λ s.
-      let t = taken s in
+      let t = sized-banded s in
       by-test (sureTest low high (length low - 1))
-      (λ e. let o = sure-order t e in rw (readable t k (o .untied L k), o .same L k, banded-done t, e))
+      (λ e. let o = sure-order t e in rw (choice-read t k (o .untied L k), o .same L k, banded-done t, e))
       (λ e. absurd (sure (rw (banded-done t, e)))))
       (λ s. sizeless-order s k)
 
@@ -93,30 +93,30 @@ module _ {low high : List ℕ} (b : Bands low high) where
   codeless : (m : ℕ) {L : List ℕ} → Banded low high → coded (length low) m ≡ false → Choice low high L → tied L ≡ false
       → symbolAnswer L m ≡ sureSymbolAnswer low high m
   unfolding symbolAnswer symbolNumber sureSymbolAnswer sureSymbolNumber
-  codeless m t v k u = rw (readable t k u, banded-done t, k .long, v)
+  codeless m t v k u = rw (choice-read t k u, banded-done t, k .long, v)
 
   every-symbol : (m : ℕ) → (sureSymbolNumber low high m ≡ 10 → ⊥) → (L : List ℕ) → Choice low high L → tied L ≡ false
       → symbolAnswer L m ≡ sureSymbolAnswer low high m
   every-symbol m sure L k u =
       by-test (sized (length low))
       (λ s.
-      let t = taken s in
+      let t = sized-banded s in
       by-test (coded (length low) m)
       (λ v.
       let r = code-range (length low) m (rw v) in
       let c : BandedCode low high m = record { banded = t; one = r .0; most = r .1 } in
       by-test (sureTest low high (prefixLength (length low) m))
-      (λ e. sym (symbol-given L m (readable t k u) (rw (k .long, v))) ∙ same-symbol c e L k ∙ sure-symbol-given c e)
+      (λ e. sym (symbol-given L m (choice-read t k u) (rw (k .long, v))) ∙ same-symbol c e L k ∙ sure-symbol-given c e)
       (λ e. absurd (sure (sym (sure-symbol-unsure c e)))))
       (λ v. codeless m t v k u))
       (λ s. sizeless-symbol s k m)
 
-  last : (xs : List ℕ) → SureOrder low high xs → SureLead low high (length low - 1) (take (length low - 1) xs)
-  last xs s = rw (← order-same b s) (above-lead b (length low - 1) (omega arith) (order-above b s (length low - 1) (omega arith)))
+  order-leads : (xs : List ℕ) → SureOrder low high xs → SureLead low high (length low - 1) (take (length low - 1) xs)
+  order-leads xs s = rw (← order-same b s) (above-lead b (length low - 1) (omega arith) (order-above b s (length low - 1) (omega arith)))
 
-  all : (q : List ℕ) → SureLead low high (length low - 1) q
+  leads-order : (q : List ℕ) → SureLead low high (length low - 1) q
       → (take (length low - 1) (permutationOf low) ≡ q) × SureOrder low high (permutationOf low)
-  all q l = (
+  leads-order q l = (
     lead-same b (length low - 1) (omega arith) l,
     above-order b (length low - 1) (omega arith) (omega arith) (lead-above b (length low - 1) (omega arith) l),
   )
@@ -144,8 +144,8 @@ reading-bands low high = record {
   no-tie = no-tie low high;
   no-symbol-tie = no-symbol-tie low high;
   one = one-symbol;
-  last = last;
-  all = all;
+  order-leads = order-leads;
+  leads-order = leads-order;
 }
 
 -- ---- bands of one level each
@@ -182,7 +182,7 @@ module _ (L : List ℕ) where
       (λ e. absurd (false≢true (sym (sure-order b e .untied L own-choice) ∙ t)))
       (λ e. rw (banded-done b, e))
 
-  tied-symbol : (m : ℕ) → BandedCode L L m → Touches L (prefixLength (length L) m) → sureSymbolNumber L L m ≡ 10
+  tied-symbol : (m : ℕ) → BandedCode L L m → TiedFirst L (prefixLength (length L) m) → sureSymbolNumber L L m ≡ 10
   tied-symbol m c t =
       let p : ℕ = prefixLength (length L) m in
       by-test (sureTest L L p)
@@ -191,7 +191,7 @@ module _ (L : List ℕ) where
       absurd (omega (arith, t .equal, tested-above own p (short c) e (t .place - 1) (t .other) (omega (arith, t .first)) (rw next (t .after)))))
       (λ e. sym (sure-symbol-unsure c e))
 
-  untouched : (m : ℕ) → (Touches L (prefixLength (length L) m) → ⊥) → sureSymbolNumber L L m ≡ 10 → ⊥
+  untouched : (m : ℕ) → (TiedFirst L (prefixLength (length L) m) → ⊥) → sureSymbolNumber L L m ≡ 10 → ⊥
   untouched m none z =
       let xs : List ℕ = permutationOf L in
       let t = unsure-symbol L L m z .0 in

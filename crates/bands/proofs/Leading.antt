@@ -16,7 +16,7 @@ use Rattle.theory.proofs.Sorting.{permutationOf-permutation}
 use Rattle.charge.proofs.Indexing.{sorted-sinks}
 use Rattle.bands.specs.Bands.{Leads}
 use Rattle.bands.proofs.Above.{Above}
-use Rattle.bands.proofs.Choices.{here, after}
+use Rattle.bands.proofs.Choices.{cell-here, cell-after}
 
 -- ---- a list cut at an index
 
@@ -51,7 +51,7 @@ module _ {L xs : List ℕ} (o : IsPermutation (length L) xs) (p : ℕ) (fits : p
   pub leads-above : Leads L p (take p xs) → Above L L p xs
   leads-above l j c less m =
       let back : suc j - 1 ≡ j = omega arith in
-      let cell = after o j c m in
+      let cell = cell-after o j c m in
       let out : member c (take (suc j) (take p xs)) ≡ false =
       rw (take-take (suc j) p xs less) (before-cut xs (suc j) c (permutation-distinct o) m) in
       rw (back, getD-take p xs j 0 less) at (l .above (suc j) c (omega arith) less (cell .0) (cell .1) out)
@@ -85,7 +85,7 @@ module _ {L : List ℕ} {p : ℕ} {q : List ℕ} (fits : p ≤ length L) (l : Le
         by-name y (getD q i 0)
         (λ e t. e)
         (λ ne t.
-        let cell = here o i (omega arith) in
+        let cell = cell-here o i (omega arith) in
         let first : member y (take i q) ≡ false = rw (← before) (entry-new xs i (permutation-distinct o) in-xs) in
         let out : member y (take (suc i) q) ≡ false = rw (take-suc q i 0 in-q, member-append y (take i q) (getD q i 0 ∷ []), first, t) in
         let place : suc i - 1 ≡ i = omega arith in

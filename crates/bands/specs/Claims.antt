@@ -28,13 +28,13 @@ pub record BandReading (low high : List ℕ) : Type 0 where
   -- with m = 1 no cell needs to lead
   pub one : Banded low high → sureSymbolAnswer low high 1 ≡ record { number = 0; symbol = 0 }
   -- all cells but one lead in every choice exactly where the order is sure
-  pub last : Bands low high → (xs : List ℕ) → SureOrder low high xs → SureLead low high (length low - 1) (take (length low - 1) xs)
-  pub all :
+  pub order-leads : Bands low high → (xs : List ℕ) → SureOrder low high xs → SureLead low high (length low - 1) (take (length low - 1) xs)
+  pub leads-order :
       Bands low high → (q : List ℕ) → SureLead low high (length low - 1) q
       → (take (length low - 1) (permutationOf low) ≡ q) × SureOrder low high (permutationOf low)
 
--- a tie touches the first p cells, by level: one of them has the level of a cell after it
-pub record Touches (L : List ℕ) (p : ℕ) : Type 0 where
+-- a tie of the first p cells, by level: one of them has the level of a cell after it
+pub record TiedFirst (L : List ℕ) (p : ℕ) : Type 0 where
   pub place : ℕ
   pub other : ℕ
   pub first : (1 ≤ place) × (place ≤ p)
@@ -45,7 +45,7 @@ pub record Touches (L : List ℕ) (p : ℕ) : Type 0 where
 pub record OneLevel (L : List ℕ) : Type 0 where
   pub order : tied L ≡ false → sureAnswer L L ≡ readAnswer L
   pub symbol : tied L ≡ false → (m : ℕ) → sureSymbolAnswer L L m ≡ symbolAnswer L m
-  -- with a tie the order is unsure, the symbol only where the tie touches its first p cells
+  -- with a tie the order is unsure, the symbol only where the tie is one of its first p cells
   pub tied-order : Banded L L → tied L ≡ true → sureNumber L L ≡ 10
-  pub tied-symbol : (m : ℕ) → BandedCode L L m → Touches L (prefixLength (length L) m) → sureSymbolNumber L L m ≡ 10
-  pub untouched : (m : ℕ) → (Touches L (prefixLength (length L) m) → ⊥) → sureSymbolNumber L L m ≡ 10 → ⊥
+  pub tied-symbol : (m : ℕ) → BandedCode L L m → TiedFirst L (prefixLength (length L) m) → sureSymbolNumber L L m ≡ 10
+  pub untouched : (m : ℕ) → (TiedFirst L (prefixLength (length L) m) → ⊥) → sureSymbolNumber L L m ≡ 10 → ⊥

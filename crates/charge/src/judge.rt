@@ -1,4 +1,5 @@
-// What a job on levels is judged by, before its first push: size, tie, the highest level, and a count-up call as a whole. And the lowest level, for runs.
+// What a job on levels is judged by, before its first push: size, tie, the highest level, and a count-up call as a whole. And the lowest level and the larger of
+// two, for other crates.
 ghost use mathlib.Core.Path.{_≡_};
 ghost use Prim.Native.Nat.{_≤_, max};
 ghost use lib.ListN.{length, drop};
@@ -59,7 +60,7 @@ pub fn addend(level: u16) -> u32
     level as u32
 }
 
-// The larger of two levels, or of two differences of levels. For other crates too.
+// The larger of two levels, or of two differences of levels. For other crates.
 pub fn larger(a: u16, b: u16) -> u16
     ensures { λ r. ⌜ r ≡ max a b ⌝ }
 {

@@ -11,7 +11,7 @@ use Rattle.theory.specs.Lists.{count, member}
 use Rattle.theory.specs.Permutation.{IsPermutation}
 use Rattle.theory.proofs.Cases.{by-test, by-name, by-order}
 use Rattle.theory.proofs.Counts.{delta-eq, delta-ne}
-use Rattle.theory.proofs.Members.{count-member}
+use Rattle.theory.proofs.Members.{cell-member}
 use Rattle.theory.proofs.Names.{names-map-at}
 use Rattle.permutation.specs.Spots.{spot, spotRow, HasSpots}
 
@@ -27,7 +27,7 @@ spot-row-length xs = refl
 
 pub row-has-spots : {n : ℕ} {xs : List ℕ} → n ≤ 20 → IsPermutation n xs → HasSpots xs n (spotRow xs)
 row-has-spots {n} {xs} few o = record {
-  each = λ c low high. spot-row-at xs c (omega arith) ∙ rw (count-member c xs (omega (arith, o .once c low high)));
+  each = λ c low high. spot-row-at xs c (omega arith) ∙ rw (cell-member o c (low, high));
 }
 
 -- ---- how many names below c stand in a list

@@ -10,7 +10,7 @@ use Rattle.theory.specs.Permutation.{IsPermutation}
 use Rattle.theory.specs.Levels.{level, highest, tied}
 use Rattle.theory.proofs.Cases.{by-test, by-name, by-le}
 use Rattle.theory.proofs.Permutations.{inside}
-use Rattle.theory.proofs.Members.{Distinct, permutation-distinct, member-count, count-member, member-first, member-later, distinct-head, distinct-tail, distinct-cons}
+use Rattle.theory.proofs.Members.{Distinct, permutation-distinct, member-count, member-first, member-later, distinct-head, distinct-tail, distinct-cons, cell-member}
 use Rattle.theory.proofs.Padding.{getD-any}
 use Rattle.theory.proofs.Ties.{Apart, untied-apart, apart-untied}
 
@@ -94,7 +94,7 @@ module _ (L : List ℕ) where
       (λ t. separate-untied ys (permutation-distinct o) (separate (untied-apart L t)) ∙ sym t)
     where
       stands : (c : ℕ) → 1 ≤ c → c ≤ length L → member c ys ≡ true
-      stands c low high = count-member c ys (omega (arith, o .once c low high))
+      stands c low high = cell-member o c (low, high)
 
       apart : tied (map (level L) ys) ≡ false → Apart L
       apart e c d low less high = untied-separate ys e c d (stands c low (omega arith)) (stands d (omega arith) high) (λ q. omega arith)

@@ -1,4 +1,4 @@
--- The number of a code of m symbols on n cells, and what a judge says of it. Assumes nothing.
+-- The number of a code of m symbols on n cells, and what `judge_code` answers. Assumes nothing.
 use mathlib.Core.Path.{_≡_, sym, ap, _∙_}
 use mathlib.Core.Bool.{and-eq-true-iff, and-false}
 use Prim.Native.Nat.{ℕ, _≤_, _<_}
@@ -28,7 +28,7 @@ module _ (n m : ℕ) where
       let t = and-eq-true-iff (leb 1 m) (leb m (factorial n)) .0 (tested (coded n m) (λ e. omega arith) z) in
       (leb-true 1 m (t .0), leb-true m (factorial n) (t .1))
 
--- what a judge says of it
+-- what `judge_code` answers
 module _ (n m : ℕ) {code : Code} (e : code ≡ codeJudged n m) where
   pub judged-number : code .number ≡ codeOf n m
   unfolding codeJudged

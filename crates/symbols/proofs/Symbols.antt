@@ -54,7 +54,7 @@ module _ (n m : ℕ) (xs : List ℕ) {s : ℕ} (e : s ≡ symbolOf n m xs) where
   unfolding codeRead
   code-read-done h = rw (lt-ltb (symbolOf n m xs) m (omega (arith, e)), e)
 
--- ---- a record that holds the permutation of levels
+-- ---- a record that holds the permutation of levels: what `leading_symbol` asks for, and what it gives
 module _ (L : List ℕ) {r : Permutation} (few : 2 ≤ length L) (many : length L ≤ 20) (is : r ≡ recordOf (permutationOf L)) where
   size-is : r .n ≡ length L
   size-is = ap (λ (p : Permutation). p .n) is ∙ permutationOf-length L

@@ -9,7 +9,7 @@ use Rattle.theory.specs.Lists.{member, without, namesFrom, names}
 use Rattle.theory.specs.Permutation.{IsPermutation}
 use Rattle.theory.proofs.Cases.{by-test, by-name}
 use Rattle.theory.proofs.Permutations.{inside}
-use Rattle.theory.proofs.Members.{Distinct, Same, distinct-cons, distinct-single, member-count, count-member, without-among}
+use Rattle.theory.proofs.Members.{Distinct, Same, distinct-cons, distinct-single, member-count, without-among, cell-member}
 
 -- each name is below all later ones
 abbrev pub Ascending : List ℕ → Type 0
@@ -72,7 +72,7 @@ permutation-member {n} {xs} o c =
     (λ f.
     let low : 1 ≤ c = names-low 1 n c f in
     let high : c ≤ n = omega (arith, names-high 1 n c f) in
-    absurd (false≢true (sym e ∙ count-member c xs (omega (arith, o .once c low high)))))
+    absurd (false≢true (sym e ∙ cell-member o c (low, high))))
     (λ f. e ∙ sym f))
 
 -- and a list of n names that has just these is one

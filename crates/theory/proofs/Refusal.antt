@@ -43,6 +43,7 @@ module _ (a b : ℕ) {k : ℕ} (first : a ≡ k → k ≡ 0) where
   pub orElse-past : orElse a b ≡ k → (a ≡ 0) × (b ≡ k)
   orElse-past h = by-name a 0 (λ q e. (q, rw e at h)) (λ ne e. let is : a ≡ k = rw e at h in absurd (ne (is ∙ first is)))
 
+  -- and one that neither refuses by is 0
   pub orElse-only : (b ≡ k → k ≡ 0) → orElse a b ≡ k → k ≡ 0
   orElse-only second h = second (orElse-past h .1)
 

@@ -141,15 +141,15 @@ fn ends_of_the_range() {
     }
 }
 
-/// "10 unsure, when the condition fails; for a symbol it comes before idle." Cell 3 leads; then cell 2 does, or the bands of cells 1 and 2 touch. On three cells
-/// two and three symbols have p = 1, four to six p = 2. Prefix [3] is number 2, [3,1] and [3,2] are 4 and 5, so that of four symbols every choice is idle.
+/// "10 unsure, when the condition fails; for a symbol it comes before idle." Cell 3 leads; then cell 2 does, or one of cells 1 and 2, or they tie. On three
+/// cells two and three symbols have p = 1, four to six p = 2. Prefix [3] is number 2, [3,1] and [3,2] are 4 and 5, so that of four symbols any that leads is idle.
 #[test]
 fn unsure_before_idle() {
     let table =
         [(1, Ok(0), Ok(0)), (2, Err(Idle), Err(Idle)), (3, Ok(2), Ok(2)), (4, Err(Idle), Err(Unsure)), (5, Err(Idle), Err(Unsure)), (6, Ok(5), Err(Unsure))];
-    for (m, apart, touching) in table {
-        let read = [2, 3].map(|level| read_symbol_bands(&[1, 3, 7], &[level, 5, 7], m));
-        assert_eq!(read, [apart, touching], "{m}");
+    for (m, apart, crossing) in table {
+        let read = [2, 4].map(|level| read_symbol_bands(&[1, 3, 7], &[level, 5, 7], m));
+        assert_eq!(read, [apart, crossing], "{m}");
     }
 }
 
