@@ -33,7 +33,8 @@ const WRITTEN: [&str; 3] = ["paper", "longest", "thousand-stores"];
 type OfSize = fn(usize) -> Box<dyn Pair>;
 
 pub fn benchmarks() -> Vec<Benchmark> {
-    let jobs: [(&str, OfSize); 9] = [
+    let jobs: [(&str, OfSize); 10] = [
+        ("digits", digits),
         ("rank", rank),
         ("unrank", unrank),
         ("read", read),
@@ -81,6 +82,14 @@ pub fn levels(random: &mut Random, n: usize) -> [u16; 20] {
     let mut row = [0; 20];
     row[..n].copy_from_slice(&random.group_below(n, 5000));
     row
+}
+
+fn digits(n: usize) -> Box<dyn Pair> {
+    pair(
+        inputs(INPUTS, |random| records(random, n)),
+        |(record, _), row| *row = turretmedlar::digits(*record).unwrap(),
+        |(_, record), row| *row = model::digits(record).unwrap(),
+    )
 }
 
 fn rank(n: usize) -> Box<dyn Pair> {

@@ -11,12 +11,17 @@ use permutation::answers::Permutation;
 use permutation::cell::wide;
 use permutation::validity::check;
 
-// The digit of cell m, of m cells, that is met past `passed` others: its place less 2, modulo m.
+// The digit of cell m, of m cells, that is met past `passed` others: its place less 2, modulo m. One comparison stands for the remainder: m - 1 at place 1, the
+// place less 2 at all others.
 fn digit_of(m: usize, passed: usize) -> u8
     requires { ⌜ (passed < m) × (m ≤ 20) ⌝ }
     ensures { λ r. ⌜ r ≡ meaning.digit m (passed + 1) ⌝ }
 {
-    ((passed + m - 1) % m) as u8
+    if 0 < passed {
+        (passed - 1) as u8
+    } else {
+        (m - 1) as u8
+    }
 }
 
 // How many cells are passed from the gap s, which is before the cell at spot s, to the cell at spot j, of m on the circle: down the places.
