@@ -1,7 +1,7 @@
 #!/usr/bin/env python3
-"""Disassembles the static library and checks that no digit of a permutation is worked out by division: `tm_digits`, `tm_rank` and the functions that they call,
-however far down, have no division instruction, and call nothing outside the library. That a division would be found is checked on `tm_unrank`: a function that it
-calls has one."""
+"""Disassembles the static library and checks that no digit is worked out from a place by division: `tm_digits`, `tm_rank` and the functions that they call, however
+far down, have no division instruction, and call nothing outside the library. That a division would be found is checked on `tm_unrank`: a function that it calls has
+one."""
 import re
 import subprocess
 import sys
@@ -12,9 +12,9 @@ LIBRARY = Path(__file__).resolve().parent.parent / "target/staticlib/libturretme
 DIVIDES = {"tm_digits": False, "tm_rank": False, "tm_unrank": True}
 # Each function has a section, which is named after it.
 SECTION = re.compile(r"^Disassembly of section (?:\.text\.)?(.+):$", re.M)
-# A call into another section is left to the linker, under the name of the section or of the function. So is the place of a constant, which is left out. There is no call by
-# pointer: Rattle has no pointers to functions.
-CALLED = re.compile(r" R_\w+\t(?!\.L|\.rodata)(?:\.text\.)?(.+?)(?:[+-]0x[0-9a-f]+)?$", re.M)
+# A call into another section is left to the linker, under the name of the section or of the function; so is the place of a constant, which is left out. Nothing is
+# called by pointer: Rattle has no pointers to functions.
+CALLED = re.compile(r" R_\w+\t(?!\.LCPI)(?:\.text\.)?(.+?)(?:[+-]0x[0-9a-f]+)?$", re.M)
 # Before its name an instruction may have prefixes.
 DIVISION = re.compile(r":\t(?:\w+ )*\w*div")
 
@@ -36,7 +36,7 @@ def divides(job):
     return any(DIVISION.search(sections[name]) for name in names) if names <= sections.keys() else None
 
 
-listed = subprocess.run(["objdump", "-dr", "--no-show-raw-insn", LIBRARY], check=True, stdout=subprocess.PIPE, text=True).stdout
+listed = subprocess.run(["env", "LC_ALL=C", "objdump", "-dr", "--no-show-raw-insn", LIBRARY], check=True, stdout=subprocess.PIPE, text=True).stdout
 _, *parts = SECTION.split(listed)
 sections = defaultdict(str)
 for section, body in zip(parts[::2], parts[1::2]):

@@ -11,8 +11,8 @@ use permutation::answers::Permutation;
 use permutation::cell::wide;
 use permutation::validity::check;
 
-// The digit of cell m, of m cells, that is met past `passed` others: its place less 2, modulo m. But for place 1 the place less 2 is the digit itself: one
-// comparison is enough, and no division, the controller's slowest instruction, is needed.
+// The digit of cell m, of m cells, that is met past `passed` others: its place less 2, modulo m. At every place but 1 the place less 2 is the digit itself, so that
+// one comparison is enough, and no division, the controller's slowest instruction, is needed.
 fn digit_of(m: usize, passed: usize) -> u8
     requires { ⌜ (passed < m) × (m ≤ 20) ⌝ }
     ensures { λ r. ⌜ r ≡ meaning.digit m (passed + 1) ⌝ }
