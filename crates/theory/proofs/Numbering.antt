@@ -51,7 +51,7 @@ weight-left p free d c m = ap (λ (n : ℕ). falling n p) (without-one-length c 
 
 -- lists of w entries each, one for each name, put one after another
 module _ (f : ℕ → List (List ℕ)) (w : ℕ) where
-  flatMap-length : (cs : List ℕ) → ((c : ℕ) → member c cs ≡ true → length (f c) ≡ w) → length (flatMap f cs) ≡ length cs * w
+  pub flatMap-length : (cs : List ℕ) → ((c : ℕ) → member c cs ≡ true → length (f c) ≡ w) → length (flatMap f cs) ≡ length cs * w
   unfolding flatMap
   flatMap-length [] h = omega arith
   flatMap-length (c ∷ cs) h =

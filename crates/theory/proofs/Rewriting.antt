@@ -99,7 +99,7 @@ rewrite-cells xs t c m =
     )
 
 -- the cell on top comes before every sublist that does not have it
-top-sublist : (c : ℕ) (s xs : List ℕ) → member c xs ≡ true → top xs ≡ c → member c s ≡ false → Sublistᴰ s xs → Sublistᴰ (c ∷ s) xs
+pub top-sublist : (c : ℕ) (s xs : List ℕ) → member c xs ≡ true → top xs ≡ c → member c s ≡ false → Sublistᴰ s xs → Sublistᴰ (c ∷ s) xs
 top-sublist c s [] m q out k = absurd (false≢true m)
 top-sublist c [] (x ∷ xs) m q out k = Sublistᴰ·cons-cons (sym q) (Sublistᴰ·nil-sublist xs)
 top-sublist c (b ∷ s) (x ∷ xs) m q out k =

@@ -1,0 +1,206 @@
+-- What is d pushes away, by the cell on top: the cells themselves where d is 0, and else, for each name in turn, that cell on what is d - 1 pushes away from the
+-- others. So it is counted. Assumes nothing.
+use mathlib.Core.Path.{_≡_, refl, ap, sym, _∙_}
+use mathlib.Core.Bool.{Bool, true, false, cond, not, _&&_, false≢true, and-true, and-false}
+use mathlib.Core.List.{List, [], _∷_, map, flatMap, append-nil}
+use Prim.Native.Nat.{ℕ, zero, suc, _-_, _*_, _<_}
+use native.Mathlib.Nat.{mul-assoc}
+use native.Mathlib.Omega.{arith}
+use lib.Dec.{eqb}
+use lib.ListN.{length, length-append, length-map}
+use borrow.Author.Tests.{eq-eqb, ne-eqb}
+use Rattle.theory.specs.Lists.{member, without}
+use Rattle.theory.specs.Factorial.{falling}
+use Rattle.theory.specs.Permutation.{top}
+use Rattle.theory.specs.Rewrite.{rewriteCount}
+use Rattle.theory.specs.Prefix.{prefixes}
+use Rattle.theory.proofs.Cases.{by-test, by-name, eqb-sym}
+use Rattle.theory.proofs.Members.{Distinct, distinct-head, distinct-tail, distinct-without, member-first, member-later, member-differs, member-length, member-without, without-absent, without-one-length}
+use Rattle.theory.proofs.Rows.{Rearranged}
+use Rattle.theory.proofs.Numbering.{Over, prefixes-length, prefixes-at, prefixOf-length, prefixOf-over, flatMap-length}
+use Rattle.reach.specs.Reach.{keep}
+use Rattle.reach.specs.Listing.{away, awayUnder}
+use Rattle.reach.proofs.Entries.{In, At, in-at, keep-none, keep-same, keep-under, keep-flatMap, flatMap-same, flatMap-none}
+use Rattle.reach.proofs.Nearing.{stands-test, away-test}
+
+-- cells xs, and their names
+pub record Named (free xs : List ℕ) : Type 0 where
+  pub names : Distinct free
+  pub cells : Rearranged free xs
+
+-- one cell less
+pub named-less : {free xs : List ℕ} → Named free xs → (c : ℕ) → member c free ≡ true → Named (without (c ∷ []) free) (without (c ∷ []) xs)
+named-less {free} {xs} v c m =
+    let k : Rearranged free xs = v .cells in
+    record {
+      names = distinct-without (c ∷ []) free (v .names);
+      cells = record {
+        distinct = distinct-without (c ∷ []) xs (k .distinct);
+        same = λ b. cc (member-without b (c ∷ []) free, member-without b (c ∷ []) xs, k .same b);
+        long = cc (without-one-length c free (v .names) m, without-one-length c xs (k .distinct) (sym (k .same c) ∙ m), k .long);
+      };
+    }
+
+-- a prefix of length p over the names of `free` has that length, and names of `free` only
+pub prefix-in : (p : ℕ) (free : List ℕ) → Distinct free → (t : List ℕ) → In t (prefixes p free) → (length t ≡ p) × Over free t
+prefix-in p free d t m =
+    let f : At t (prefixes p free) = in-at (prefixes p free) m in
+    let below : f .index < falling (length free) p = omega (arith, f .within, prefixes-length p free d) in
+    let is = sym (f .here) ∙ prefixes-at p free (f .index) d below in
+    (rw is (prefixOf-length p free (f .index)), rw is (prefixOf-over p free (f .index) d below))
+
+-- a test of all prefixes is one of those under each name in turn
+keep-prefixes :
+    (test : List ℕ → Bool) (p : ℕ) (free : List ℕ)
+    → keep test (prefixes (suc p) free) ≡ flatMap (λ c. map (λ t. c ∷ t) (keep (λ t. test (c ∷ t)) (prefixes p (without (c ∷ []) free)))) free
+unfolding prefixes flatMap
+keep-prefixes test p free =
+    keep-flatMap test (λ c. map (λ t. c ∷ t) (prefixes p (without (c ∷ []) free))) free
+    ∙ flatMap-same _ _ free (λ c m. keep-under test c (prefixes p (without (c ∷ []) free)))
+
+-- the cells x ∷ xs, over the names of `free`, and one of them taken out
+module _ {x : ℕ} {xs free : List ℕ} (v : Named free (x ∷ xs)) (c : ℕ) (m : member c free ≡ true) where
+  here : member c (x ∷ xs) ≡ true
+  here = sym (v .cells .same c) ∙ m
+
+  less : Named (without (c ∷ []) free) (without (c ∷ []) (x ∷ xs))
+  less = named-less v c m
+
+  fewer : length (without (c ∷ []) (x ∷ xs)) ≡ length xs
+  fewer = without-one-length c (x ∷ xs) (v .cells .distinct) here ∙ omega arith
+
+  module _ (t : List ℕ) (i : In t (prefixes (length xs) (without (c ∷ []) free))) where
+    over : (length t ≡ length xs) × Over (without (c ∷ []) free) t
+    over = prefix-in (length xs) (without (c ∷ []) free) (less .names) t i
+
+    out : member c t ≡ false
+    out =
+        by-test (member c t)
+        (λ e. absurd (false≢true (sym (cc (member-without c (c ∷ []) free, eq-eqb c c refl)) ∙ over .1 .named c e)))
+        (λ e. e)
+
+    pub stood : eqb (rewriteCount (x ∷ xs) (c ∷ t)) 0 ≡ (eqb (rewriteCount (without (c ∷ []) (x ∷ xs)) t) 0 && eqb c x)
+    stood = stands-test c t (x ∷ xs) here out (ap suc (over .0))
+
+    pub left : (d : ℕ) → eqb (rewriteCount (x ∷ xs) (c ∷ t)) (suc d)
+        ≡ (not (eqb d 0 && eqb c x) && eqb (rewriteCount (without (c ∷ []) (x ∷ xs)) t) d)
+    left d = away-test c t (x ∷ xs) here out (ap suc (over .0)) d
+
+-- ---- 0 pushes away
+
+-- of lists put one after another all but one are empty
+flatMap-one : (a : ℕ) (ts : List (List ℕ)) (cs : List ℕ) → Distinct cs → member a cs ≡ true → flatMap (λ c. cond (eqb c a) ts []) cs ≡ ts
+unfolding flatMap
+flatMap-one a ts [] d m = absurd (false≢true m)
+flatMap-one a ts (b ∷ cs) d m =
+    by-name a b
+    (λ q e.
+    let none : flatMap (λ c. cond (eqb c a) ts []) cs ≡ [] =
+    flatMap-none _ cs (λ c k. cc (member-differs c b cs (distinct-head b cs d) k)) in
+    cc (eqb-sym b a, append-nil ts))
+    (λ q e. cc (eqb-sym b a, flatMap-one a ts cs (distinct-tail b cs d) (rw e at m)))
+
+module _ {x : ℕ} {xs free : List ℕ} (v : Named free (x ∷ xs)) where
+  -- what the cell on top has under it: the others as they stand
+  top-out : without (x ∷ []) (x ∷ xs) ≡ xs
+  top-out = cc (eq-eqb x x refl, without-absent x xs (distinct-head x xs (v .cells .distinct)))
+
+  top-in : member x free ≡ true
+  top-in = v .cells .same x ∙ member-first x xs
+
+  under-top : Named (without (x ∷ []) free) xs
+  under-top = rw top-out at (named-less v x top-in)
+
+  top-kept :
+      away (without (x ∷ []) free) xs 0 ≡ xs ∷ []
+      → keep (λ t. eqb (rewriteCount (x ∷ xs) (x ∷ t)) 0) (prefixes (length xs) (without (x ∷ []) free)) ≡ xs ∷ []
+  unfolding away
+  top-kept ih =
+      keep-same _ (λ t. eqb (rewriteCount xs t) 0) (prefixes (length xs) (without (x ∷ []) free))
+      (λ t i. stood v x top-in t i ∙ rw (top-out, eq-eqb x x refl) (and-true _))
+      ∙ ih
+
+  none-more : away (without (x ∷ []) free) xs 0 ≡ xs ∷ [] → away free (x ∷ xs) 0 ≡ (x ∷ xs) ∷ []
+  unfolding away
+  none-more ih =
+      keep-prefixes (λ t. eqb (rewriteCount (x ∷ xs) t) 0) (length xs) free
+      ∙ flatMap-same _ (λ c. cond (eqb c x) ((x ∷ xs) ∷ []) []) free (λ c m.
+      by-name c x
+      (λ q e. rw (e, q) (ap (map (λ t. x ∷ t)) (top-kept ih)))
+      (λ q e. rw e (ap (map (λ t. c ∷ t)) (keep-none _ (prefixes (length xs) (without (c ∷ []) free)) (λ t i. stood v c m t i ∙ rw e (and-false (eqb (rewriteCount (without (c ∷ []) (x ∷ xs)) t) 0)))))))
+      ∙ flatMap-one x ((x ∷ xs) ∷ []) free (v .names) top-in
+
+pub away-none : {free : List ℕ} (xs : List ℕ) → Named free xs → away free xs 0 ≡ xs ∷ []
+unfolding away prefixes rewriteCount
+away-none [] v = refl
+away-none (x ∷ xs) v = none-more v (away-none xs (under-top v))
+
+-- ---- more pushes away
+
+one-more : (d : ℕ) → eqb (suc d) 1 ≡ eqb d 0
+one-more d = by-name d 0 (λ q e. eq-eqb (suc d) 1 (ap suc q) ∙ sym e) (λ q e. ne-eqb (suc d) 1 (λ r. q (omega arith)) ∙ sym e)
+
+-- no cells are 0 pushes away from themselves
+away-empty : (free : List ℕ) (d : ℕ) → away free [] (suc d) ≡ []
+unfolding away prefixes rewriteCount
+away-empty free d = cc (ne-eqb 0 (suc d) (λ q. omega arith))
+
+pub away-more : (free xs : List ℕ) (d : ℕ) → Named free xs → away free xs (suc d) ≡ flatMap (awayUnder free xs (suc d)) free
+unfolding away awayUnder flatMap
+away-more [] [] d v = away-empty [] d
+away-more (a ∷ free) [] d v = absurd (omega (arith, v .cells .long))
+away-more free (x ∷ xs) d v =
+    keep-prefixes (λ t. eqb (rewriteCount (x ∷ xs) t) (suc d)) (length xs) free
+    ∙ flatMap-same _ _ free (λ c m.
+    let one : eqb (suc d) 1 ≡ eqb d 0 = one-more d in
+    let pred : suc d - 1 ≡ d = omega arith in
+    by-test (eqb d 0 && eqb c x)
+    (λ f. rw (one, f) (ap (map (λ t. c ∷ t)) (keep-none _ (prefixes (length xs) (without (c ∷ []) free)) (λ t i. left v c m t i d ∙ rw f))))
+    (λ f. rw (one, f, pred, fewer v c m) (ap (map (λ t. c ∷ t)) (keep-same _ _ (prefixes (length xs) (without (c ∷ []) free)) (λ t i. left v c m t i d ∙ rw f)))))
+
+-- ---- how many
+
+-- lists of one entry each, but for one that is empty
+flatMap-but-one :
+    (f : ℕ → List (List ℕ)) (a : ℕ) (cs : List ℕ) → Distinct cs → member a cs ≡ true → f a ≡ []
+    → ((c : ℕ) → member c cs ≡ true → eqb c a ≡ false → length (f c) ≡ 1) → length (flatMap f cs) ≡ length cs - 1
+unfolding flatMap
+flatMap-but-one f a [] d m none one = absurd (false≢true m)
+flatMap-but-one f a (b ∷ cs) d m none one =
+    by-name a b
+    (λ q e.
+    let ones : length (flatMap f cs) ≡ length cs * 1 =
+    flatMap-length f 1 cs (λ c k. one c (member-later c b cs k) (rw q (member-differs c b cs (distinct-head b cs d) k))) in
+    rw (← q, none) (omega (arith, ones)))
+    (λ q e.
+    let later : member a cs ≡ true = rw e at m in
+    omega (
+      arith,
+      length-append (f b) (flatMap f cs),
+      one b (member-first b cs) (eqb-sym b a ∙ e),
+      flatMap-but-one f a cs (distinct-tail b cs d) later none (λ c k. one c (member-later c b cs k)),
+      member-length a cs later,
+    ))
+
+pub away-many : (d : ℕ) (free xs : List ℕ) → Named free xs → length (away free xs (suc d)) ≡ falling (length xs) d * (length xs - suc d)
+unfolding awayUnder flatMap
+away-many zero free [] v = ap length (away-empty free 0)
+away-many (suc d) free [] v = ap length (away-empty free (suc d)) ∙ omega arith
+away-many zero free (x ∷ xs) v =
+    ap length (away-more free (x ∷ xs) 0 v)
+    ∙ flatMap-but-one (awayUnder free (x ∷ xs) 1) x free (v .names) (top-in v)
+    (rw (eq-eqb x x refl))
+    (λ c m e. rw (e, away-none _ (named-less v c m)))
+    ∙ omega (arith, v .cells .long)
+away-many (suc d) free (x ∷ xs) v =
+    let w : ℕ = falling (length xs) d * (length xs - suc d) in
+    let pred : suc (suc d) - 1 ≡ suc d = omega arith in
+    let one : suc (length xs) - 1 ≡ length xs = omega arith in
+    let two : suc (length xs) - suc (suc d) ≡ length xs - suc d = omega arith in
+    ap length (away-more free (x ∷ xs) (suc d) v)
+    ∙ flatMap-length (awayUnder free (x ∷ xs) (suc (suc d))) w free (λ c m.
+    rw (ne-eqb (suc (suc d)) 1 (λ q. omega arith), pred) (
+    length-map (away (without (c ∷ []) free) (without (c ∷ []) (x ∷ xs)) (suc d)) (λ t. c ∷ t)
+    ∙ away-many d (without (c ∷ []) free) (without (c ∷ []) (x ∷ xs)) (named-less v c m)
+    ∙ rw (fewer v c m)))
+    ∙ rw (one, two, sym (v .cells .long)) (sym (mul-assoc (suc (length xs)) (falling (length xs) d) (length xs - suc d)))

@@ -1,0 +1,5 @@
+-- The meanings that the contracts cite: what a reader must believe first, then what is claimed, what is answered, and what inner contracts cite.
+pub mod Reach
+pub mod Claims
+pub mod Answers
+pub mod Listing
