@@ -9,7 +9,7 @@
  *
  * Every answer starts with `number`. 0: the job is done. Any other number is the reason for which it is refused (enum tm_reason); then all other fields of
  * the answer are 0, and every lent list keeps its values. Where several reasons hold, the lowest number is given, but for tm_write_sheet, where the first met
- * decides, and tm_read_symbol_bands, where 10 comes before 7. Each function names its reasons; no other can come from it.
+ * decides, tm_read_symbol_bands, where 10 comes before 7, and tm_within_reach, where 2 comes last. Each function names its reasons; no other can come from it.
  *
  * What the caller sees to, since no proof reaches into C:
  * - an address that goes with a length has that many readable entries (writable ones where it is not const), aligned as their type asks; with length 0 the
@@ -29,7 +29,7 @@ extern "C" {
 
 /* The version of this header and its library; README.md and the Rust package have the same. The second number counts landings (docs/landings/), each of which
  * may change what a caller sees; the third counts corrections since, which change nothing that a caller relies on. The first is 0 until a release. */
-#define TM_VERSION "0.12.0"
+#define TM_VERSION "0.13.0"
 /* The most cells of a group, and the places of a record's row. */
 #define TM_CELLS 20
 /* The most bytes of a sheet without fault; a longer one is faulty. */
@@ -42,10 +42,11 @@ enum tm_reason {
     TM_DONE = 0,
     TM_SIZE = 1,    /* size: n is below 2 or above 20, for the group first, then for a target */
     TM_FIT = 2,     /* fit: a target's n differs from the group's; the two lists of bands differ in length; or a lent list is too short: a push list has fewer
-                       than n - 1 bytes, a text buffer fewer than the text, a list of tm_write_sheet fewer entries than the others say */
+                       than n - 1 bytes, a text buffer fewer than the text, a list of tm_within_reach fewer than the listing, a list of tm_write_sheet fewer
+                       entries than the others say */
     TM_MUDDLE = 3,  /* muddle: a record is no permutation */
     TM_TIE = 4,     /* tie: two levels are equal */
-    TM_VALUE = 5,   /* value: a rank, place, m or symbol is outside its range, or a lowest level is above its highest */
+    TM_VALUE = 5,   /* value: a rank, place, m, symbol or r is outside its range; a lowest level is above its highest; or a listing would exceed 65,536 bytes */
     TM_CEILING = 6, /* ceiling: the highest level plus the job's pushes exceeds 65,535 */
     TM_IDLE = 7,    /* idle: the prefix that leads is that of none of the m symbols */
     TM_SHEET = 8,   /* sheet: a bench sheet is ill-formed, or what is to be written is on none: a count, kind, group number or k is outside its range */
@@ -88,6 +89,12 @@ typedef struct tm_pushes {
     uint32_t pushes;
     uint32_t charge;
 } tm_pushes;
+
+/* How many permutations are listed. */
+typedef struct tm_reached {
+    uint8_t number;
+    size_t permutations;
+} tm_reached;
 
 typedef struct tm_symbol {
     uint8_t number;
@@ -151,6 +158,14 @@ tm_pushes tm_count_up(uint16_t *levels, size_t n, uint32_t k);
  * permutation; 4 tie, two levels are equal; 6 ceiling, the highest level plus r exceeds 65,535.
  * Unchanged: the levels of cells that are not pushed, and the list's bytes after the first r; refused, all levels and the whole list. */
 tm_pushes tm_rewrite(uint16_t *levels, size_t n, tm_permutation target, uint8_t *list, size_t room);
+
+/* Lists every permutation that r pushes or fewer lead to from the levels' own, each once, n names apiece, into the first bytes of `list`, which has `room`
+ * bytes and may not overlap `levels`. Those that need the fewest pushes come first, and among these it goes by lexicographic sequence: the levels' own is the
+ * first. Gives how many there are, n!/(n-r)!. Nothing is pushed, so that the ceiling does not matter. The listing has n times so many bytes, 65,536 at most.
+ * Refused: 1 size, n is not 2 to 20; 4 tie, two levels are equal; 5 value, r is above n - 1, or the listing would exceed 65,536 bytes; after these 2 fit, the
+ * listing has more than `room` bytes.
+ * Unchanged: `levels`, always, and the bytes of `list` after the listing; refused, all of `list`. */
+tm_reached tm_within_reach(const uint16_t *levels, size_t n, size_t r, uint8_t *list, size_t room);
 
 /* ---- symbols: a code of m symbols, 1 to n!, numbered 0 to m - 1, on a group of n cells ----
  * Symbol s is the prefix number s, counted from 0 in lexicographic sequence, of length p: the first p names of a permutation, p the smallest number with

@@ -32,5 +32,14 @@ int main(void) {
     const uint16_t lowest[4] = {3, 1, 4, 0}, highest[4] = {3, 2, 5, 1};
     read = tm_read_symbol_bands(lowest, 4, highest, 4, 12);
     printf("setting by bands: number %u, symbol %" PRIu64 "\n", read.number, read.symbol);
+
+    /* Where one push can bring the group: the permutation that stands, and those one push away. Four names each. */
+    uint8_t names[16];
+    tm_reached near = tm_within_reach(setting, 4, 1, names, sizeof names);
+    printf("within one push: number %u, permutations %zu:", near.number, near.permutations);
+    for (size_t i = 0; i < 4 * near.permutations; i++) {
+        printf("%s%u", i % 4 == 0 ? " " : "", names[i]);
+    }
+    printf("\n");
     return 0;
 }

@@ -17,20 +17,21 @@ pub const SHEET_BYTES: usize = 24_627;
 /// A buffer of so many bytes has room for the text of any sheet.
 pub const TEXT_BYTES: usize = 31_344;
 
-/// Why a job is refused, by the numbers and words of documents 01 and 02. Where several hold, the lowest is given, but Unsure before Idle; of a sheet, the first
-/// met in its sequence.
+/// Why a job is refused, by the numbers and words of documents 01 and 02. Where several hold, the lowest is given, but Unsure before Idle, and of a listing Fit
+/// last; of a sheet, the first met in its sequence.
 #[repr(u8)]
 #[derive(Clone, Copy, Debug, PartialEq, Eq, PartialOrd, Ord)]
 pub enum Reason {
     /// n is below 2 or above 20, of the group or of a target.
     Size = 1,
-    /// A target's n differs from the group's, the two lists of bands differ in length, a push list has fewer than n - 1 bytes, or a text buffer is too short.
+    /// A target's n differs from the group's, the two lists of bands differ in length, a push list has fewer than n - 1 bytes, or a buffer is too short for a text
+    /// or a listing.
     Fit = 2,
     /// A record is no permutation; on a sheet to be written, it has a name past n.
     Muddle = 3,
     /// Two levels are equal.
     Tie = 4,
-    /// A rank, place, m or symbol is outside its range, or a lowest level is above its highest.
+    /// A rank, place, m, symbol or r is outside its range, a lowest level is above its highest, or a listing would exceed 65,536 bytes.
     Value = 5,
     /// The highest level plus the job's pushes exceeds 65,535.
     Ceiling = 6,
@@ -160,6 +161,14 @@ pub fn count_up(levels: &mut [u16], k: u32) -> Result<Spent, Reason> {
 /// Refused: Size, Fit, Muddle, Tie, Ceiling.
 pub fn rewrite(levels: &mut [u16], target: Permutation, list: &mut [u8]) -> Result<Spent, Reason> {
     spent(raw::rewrite(levels, target, list))
+}
+
+/// Lists into the first bytes of `list`, n names apiece, every permutation that r pushes or fewer lead to from that of the levels: those that need the fewest
+/// first, and among these in lexicographic sequence. Gives how many there are, n!/(n-r)!; the later bytes keep their values. Nothing is pushed.
+/// Refused: Size, Tie, Value (r is above n - 1, or the listing would exceed 65,536 bytes), and then Fit, `list` is shorter than the listing.
+pub fn within_reach(levels: &[u16], r: usize, list: &mut [u8]) -> Result<usize, Reason> {
+    let answer = raw::within_reach(levels, r, list);
+    given(answer.number, answer.permutations)
 }
 
 /// Stores a symbol of a code of m symbols by the fewest pushes, none where it stands already, and gives their number and the total of their jumps.

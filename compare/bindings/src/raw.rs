@@ -51,6 +51,14 @@ pub struct Pushes {
     pub charge: u32,
 }
 
+/// What [`within_reach`] answers: how many permutations it listed.
+#[repr(C)]
+#[derive(Clone, Copy, Debug, PartialEq, Eq)]
+pub struct Reached {
+    pub number: u8,
+    pub permutations: usize,
+}
+
 /// What [`read_symbol`] and [`read_symbol_bands`] answer.
 #[repr(C)]
 #[derive(Clone, Copy, Debug, PartialEq, Eq)]
@@ -82,6 +90,7 @@ const _: () = assert!(size_of::<Placed>() == 16 && offset_of!(Placed, place) == 
 const _: () = assert!(size_of::<Digits>() == 21 && offset_of!(Digits, row) == 1);
 const _: () = assert!(size_of::<Ranked>() == 16 && offset_of!(Ranked, rank) == 8);
 const _: () = assert!(size_of::<Pushes>() == 12 && offset_of!(Pushes, pushes) == 4 && offset_of!(Pushes, charge) == 8);
+const _: () = assert!(size_of::<Reached>() == 16 && offset_of!(Reached, permutations) == 8);
 const _: () = assert!(size_of::<Symbol>() == 16 && offset_of!(Symbol, symbol) == 8);
 const _: () = assert!(size_of::<Printed>() == 16 && offset_of!(Printed, length) == 8);
 const _: () = assert!(size_of::<Written>() == 16 && offset_of!(Written, length) == 8);
@@ -100,6 +109,7 @@ mod library {
         pub fn tm_push_level(levels: *mut u16, n: usize, place: usize) -> Pushes;
         pub fn tm_count_up(levels: *mut u16, n: usize, k: u32) -> Pushes;
         pub fn tm_rewrite(levels: *mut u16, n: usize, target: Permutation, list: *mut u8, room: usize) -> Pushes;
+        pub fn tm_within_reach(levels: *const u16, n: usize, r: usize, list: *mut u8, room: usize) -> Reached;
         pub fn tm_store(levels: *mut u16, n: usize, m: u64, symbol: u64) -> Pushes;
         pub fn tm_read_symbol(levels: *const u16, n: usize, m: u64) -> Symbol;
         pub fn tm_read_bands(lowest: *const u16, n: usize, highest: *const u16, highest_length: usize) -> Permuted;
@@ -160,6 +170,10 @@ pub fn count_up(levels: &mut [u16], k: u32) -> Pushes {
 
 pub fn rewrite(levels: &mut [u16], target: Permutation, list: &mut [u8]) -> Pushes {
     unsafe { library::tm_rewrite(levels.as_mut_ptr(), levels.len(), target, list.as_mut_ptr(), list.len()) }
+}
+
+pub fn within_reach(levels: &[u16], r: usize, list: &mut [u8]) -> Reached {
+    unsafe { library::tm_within_reach(levels.as_ptr(), levels.len(), r, list.as_mut_ptr(), list.len()) }
 }
 
 pub fn store(levels: &mut [u16], m: u64, symbol: u64) -> Pushes {

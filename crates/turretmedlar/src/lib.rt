@@ -11,6 +11,7 @@ ghost use Rattle.charge.specs.Answers.{readAnswer, placeAnswer, placeLevels, ca
 ghost use Rattle.rewriting.specs.Answers.{rewriteAnswer, rewriteLevels, rewriteList, RewriteOf};
 ghost use Rattle.symbols.specs.Answers.{storeAnswer, storeLevels, StoreOf, symbolAnswer};
 ghost use Rattle.bands.specs.Answers.{sureAnswer, OrderExactly, sureSymbolAnswer, SymbolExactly};
+ghost use Rattle.reach.specs.Answers.{reachAnswer, reachList, ReachOf};
 ghost use Rattle.sheet.specs.Sheet.{sheet as contents};
 ghost use Rattle.layout.specs.Text.{textOf};
 ghost use Rattle.text.specs.Answers.{printAnswer, printedOn};
@@ -34,6 +35,8 @@ use ranking::answers::Ranked;
 use ranking::digits::digits;
 use ranking::rank::rank;
 use ranking::unrank::unrank;
+use reach::answers::Reached;
+use reach::within_reach::within_reach;
 use rewriting::rewrite::rewrite;
 use symbols::answers::Symbol;
 use symbols::read_symbol::read_symbol;
@@ -144,6 +147,15 @@ pub extern "C" fn tm_read_symbol_bands(lowest: &[u16], highest: &[u16], m: u64) 
     ensures exactly { λ r. ⌜ SymbolExactly (now (lowest .entry)) (now (highest .entry)) m r ⌝ }
 {
     read_symbol_bands(lowest, highest, m)
+}
+
+#[no_mangle]
+pub extern "C" fn tm_within_reach(levels: &[u16], r: usize, list: &mut [u8]) -> Reached
+    ensures answer { λ a. ⌜ a ≡ reachAnswer (now (levels .entry)) r (length (now (list .entry))) ⌝ }
+    ensures list_left { λ _. ⌜ now (list .exit) ≡ reachList (now (levels .entry)) r (now (list .entry)) ⌝ }
+    ensures reaching { λ a. ⌜ ReachOf (now (levels .entry)) r a (now (list .exit)) ⌝ }
+{
+    within_reach(levels, r, list)
 }
 
 #[no_mangle]

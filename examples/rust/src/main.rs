@@ -1,5 +1,5 @@
 //! Counts run hours on one group of four cells and keeps a setting on another.
-use turretmedlar::{count_up, rank, read, read_symbol, read_symbol_bands, store, Reason, Spent};
+use turretmedlar::{count_up, rank, read, read_symbol, read_symbol_bands, store, within_reach, Reason, Spent};
 
 fn main() -> Result<(), Reason> {
     // Levels by cell name. Cell 1 has the most charge, then cells 4, 2 and 3: the permutation of rank 0.
@@ -21,5 +21,10 @@ fn main() -> Result<(), Reason> {
 
     // The same setting by bands, a lowest and a highest level for each cell. Cells 2 and 4 may have equal ones, further down than the setting goes.
     println!("setting by bands: symbol {}", read_symbol_bands(&[3, 1, 4, 0], &[3, 2, 5, 1], 12)?);
+
+    // Where one push can bring the group: the permutation that stands, and those one push away. Four names each.
+    let mut names = [0; 16];
+    let permutations = within_reach(&setting, 1, &mut names)?;
+    println!("within one push: {:?}", names.chunks(4).take(permutations).collect::<Vec<_>>());
     Ok(())
 }
