@@ -11,6 +11,7 @@ _Static_assert(sizeof(tm_placed) == 16 && offsetof(tm_placed, place) == 8, "tm_p
 _Static_assert(sizeof(tm_digit_row) == 21 && offsetof(tm_digit_row, row) == 1, "tm_digit_row");
 _Static_assert(sizeof(tm_ranked) == 16 && offsetof(tm_ranked, rank) == 8, "tm_ranked");
 _Static_assert(sizeof(tm_pushes) == 12 && offsetof(tm_pushes, pushes) == 4 && offsetof(tm_pushes, charge) == 8, "tm_pushes");
+_Static_assert(sizeof(tm_reached) == 16 && offsetof(tm_reached, permutations) == 8, "tm_reached");
 _Static_assert(sizeof(tm_symbol) == 16 && offsetof(tm_symbol, symbol) == 8, "tm_symbol");
 _Static_assert(sizeof(tm_printed) == 16 && offsetof(tm_printed, length) == 8, "tm_printed");
 _Static_assert(sizeof(tm_written) == 16 && offsetof(tm_written, length) == 8, "tm_written");
@@ -157,6 +158,34 @@ static void check_bands(void) {
     CHECK(memcmp(lowest, lowest_before, sizeof lowest) == 0 && memcmp(highest, highest_before, sizeof highest) == 0);
 }
 
+static int reached(tm_reached answer, uint8_t number, size_t permutations) {
+    return answer.number == number && answer.permutations == permutations;
+}
+
+/* Document 02, request 6: from [1,3,2] two permutations are one push away, and three need two. Then eight cells by five pushes, the longest listing; six would
+ * exceed 65,536 bytes, whatever is lent. */
+static void check_reach(void) {
+    const uint16_t before[3] = {65535, 3, 4}, tied[3] = {65535, 3, 65535}, eight[8] = {8, 7, 6, 5, 4, 3, 2, 1};
+    const uint8_t all[19] = {1, 3, 2, 2, 1, 3, 3, 1, 2, 1, 2, 3, 2, 3, 1, 3, 2, 1, 99}, last[8] = {8, 7, 6, 5, 4, 1, 2, 3};
+    uint16_t levels[3] = {65535, 3, 4};
+    uint8_t list[19], blank[19];
+    static uint8_t longest[161280], blanks[161280];
+    memset(list, 99, sizeof list);
+    memset(blank, 99, sizeof blank);
+    memset(longest, 99, sizeof longest);
+    memset(blanks, 99, sizeof blanks);
+    CHECK(reached(tm_within_reach(levels, 3, 2, list, 17), TM_FIT, 0) && reached(tm_within_reach(levels, 3, 0, list, 2), TM_FIT, 0));
+    CHECK(reached(tm_within_reach(levels, 3, 3, list, 19), TM_VALUE, 0) && reached(tm_within_reach(levels, 3, SIZE_MAX, list, 2), TM_VALUE, 0));
+    CHECK(reached(tm_within_reach(tied, 3, 2, list, 18), TM_TIE, 0) && reached(tm_within_reach(tied, 3, 3, list, 2), TM_TIE, 0));
+    CHECK(reached(tm_within_reach(levels, 1, 0, list, 19), TM_SIZE, 0) && memcmp(list, blank, sizeof list) == 0);
+    CHECK(reached(tm_within_reach(levels, 3, 0, list, 19), TM_DONE, 1) && memcmp(list, all, 3) == 0 && memcmp(list + 3, blank, 16) == 0);
+    CHECK(reached(tm_within_reach(levels, 3, 1, list, 9), TM_DONE, 3) && memcmp(list, all, 9) == 0 && memcmp(list + 9, blank, 10) == 0);
+    CHECK(reached(tm_within_reach(levels, 3, 2, list, 18), TM_DONE, 6) && memcmp(list, all, sizeof list) == 0 && memcmp(levels, before, sizeof levels) == 0);
+    CHECK(reached(tm_within_reach(eight, 8, 6, longest, 161280), TM_VALUE, 0) && reached(tm_within_reach(eight, 8, 5, longest, 53759), TM_FIT, 0));
+    CHECK(memcmp(longest, blanks, sizeof longest) == 0 && reached(tm_within_reach(eight, 8, 5, longest, 53760), TM_DONE, 6720));
+    CHECK(memcmp(longest + 53752, last, 8) == 0 && memcmp(longest + 53760, blanks, 161280 - 53760) == 0);
+}
+
 /* Document 01's bench sheet. */
 static const uint8_t sheet[] = {1, 3, 3, 0, 1, 0, 2, 0, 3, 0, 1, 0, 4, 0, 0, 0, 2, 0, 3, 1, 2, 3, 0, 3, 0, 0, 0, 0, 0, 0, 0, 3, 0, 0, 0, 0, 0, 0, 0};
 
@@ -247,6 +276,8 @@ static void check_null(void) {
     uint8_t text[4];
     CHECK(refused(tm_read(NULL, 0), TM_SIZE) && sent_back(tm_push_level(NULL, 0, 2), TM_SIZE) && sent_back(tm_count_up(NULL, 0, 1), TM_SIZE));
     CHECK(sent_back(tm_rewrite(NULL, 0, target, NULL, 0), TM_SIZE) && sent_back(tm_rewrite(levels, 2, target, NULL, 0), TM_FIT));
+    CHECK(reached(tm_within_reach(NULL, 0, 0, NULL, 0), TM_SIZE, 0) && reached(tm_within_reach(levels, 2, 0, NULL, 0), TM_FIT, 0));
+    CHECK(reached(tm_within_reach(levels, 2, 2, NULL, 0), TM_VALUE, 0));
     CHECK(sent_back(tm_store(NULL, 0, 1, 0), TM_SIZE) && tm_read_symbol(NULL, 0, 1).number == TM_SIZE);
     CHECK(refused(tm_read_bands(NULL, 0, NULL, 0), TM_SIZE) && refused(tm_read_bands(levels, 2, NULL, 0), TM_FIT));
     CHECK(tm_read_symbol_bands(NULL, 0, levels, 2, 1).number == TM_SIZE && tm_read_symbol_bands(levels, 2, NULL, 0, 1).number == TM_FIT);
@@ -266,6 +297,7 @@ int main(void) {
     check_symbols();
     check_charge();
     check_bands();
+    check_reach();
     check_sheet();
     check_writing();
     check_null();

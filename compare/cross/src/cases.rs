@@ -22,7 +22,7 @@ pub fn factorial(n: usize) -> u64 {
     falling(n, n)
 }
 
-/// n!/(n-p)!, the number of prefixes of length p.
+/// n!/(n-p)!, the number of prefixes of length p, and of permutations within p pushes.
 pub fn falling(n: usize, p: usize) -> u64 {
     (n - p + 1..=n).map(|factor| factor as u64).product()
 }
@@ -64,11 +64,12 @@ impl Cross {
         self.rewrite(&levels, record, &fill(usize::from(n) - 1));
     }
 
-    /// All that is asked of levels.
+    /// All that is asked of levels. What one push reaches is listed in bytes that are enough for 20 cells.
     pub fn jobs_on_levels(&mut self, levels: &[u16], place: usize, k: u32, (m, symbol): (u64, u64)) {
         self.read(levels);
         self.push_level(levels, place);
         self.count_up(levels, k);
+        self.within_reach(levels, 1, &fill(400));
         self.store(levels, m, symbol);
         self.read_symbol(levels, m);
     }

@@ -154,6 +154,16 @@ impl Cross {
         )
     }
 
+    pub fn within_reach(&mut self, levels: &[u16], r: usize, list: &[u8]) {
+        self.lend(
+            &("within_reach", levels, r, list.len()),
+            (levels, list),
+            |levels, list| model::within_reach(levels, r, list),
+            |levels, list| reached(raw::within_reach(levels, r, list)),
+            |levels, list| turretmedlar::within_reach(levels, r, list),
+        );
+    }
+
     pub fn store(&mut self, levels: &[u16], m: u64, symbol: u64) -> Option<Vec<u16>> {
         self.lend_to_push(
             &("store", levels, m, symbol),
@@ -265,6 +275,10 @@ pub fn spent(spent: turretmedlar::Spent) -> Spent {
 
 fn pushes(answer: raw::Pushes) -> (u8, Spent) {
     (answer.number, Spent { pushes: answer.pushes, charge: answer.charge })
+}
+
+fn reached(answer: raw::Reached) -> (u8, usize) {
+    (answer.number, answer.permutations)
 }
 
 fn symbol(answer: raw::Symbol) -> (u8, u64) {

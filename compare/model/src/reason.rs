@@ -15,8 +15,8 @@ pub enum Reason {
     Unsure,
 }
 
-/// `reason`, when it holds. Checks follow each other by rising number, so the lowest number is given, but unsure before idle; those of a sheet by its sequence,
-/// so the first met is.
+/// `reason`, when it holds. Checks follow each other by rising number, so the lowest number is given, but unsure before idle, and fit last of a listing; those of a
+/// sheet by its sequence, so the first met is.
 pub(crate) fn refuse_if(holds: bool, reason: Reason) -> Result<(), Reason> {
     if holds {
         Err(reason)

@@ -1,6 +1,6 @@
 //! The list of benchmarks. No input is refused: `unwrap` holds this for both sides.
 use crate::pair::{pair, Pair};
-use cross::cases::{factorial, record, CEILING};
+use cross::cases::{factorial, falling, record, CEILING};
 use cross::{held, spent, twin, Random};
 use std::path::Path;
 
@@ -19,6 +19,8 @@ const INPUTS: usize = 10_000;
 const SIZES: [usize; 3] = [4, 8, 20];
 /// Of count up: k, its name, and the number of inputs, fewer where a call takes long.
 const COUNTS: [(u32, &str, usize); 3] = [(1, "1", INPUTS), (100, "100", INPUTS / 10), (60_000, "60,000", 10)];
+/// Of listings: n, r, and the number of inputs, fewer where a call takes long. That of eight cells is the longest.
+const LISTINGS: [(usize, usize, usize); 3] = [(4, 2, INPUTS), (8, 5, 10), (20, 2, 100)];
 /// Files of bench sheets, each with what it has and the passes of a round.
 const SHEETS: [(&str, &str, usize); 5] = [
     ("paper", "document 01's, 1 group, 3 commands", 500),
@@ -52,6 +54,9 @@ pub fn benchmarks() -> Vec<Benchmark> {
     for (k, text, count) in COUNTS {
         let build = |n| Box::new(move || count_up(n, k, count));
         list.extend(SIZES.map(|n| Benchmark { name: format!("count_up by {text}"), n: Some(n), passes: 1, build: build(n) }));
+    }
+    for (n, r, count) in LISTINGS {
+        list.push(Benchmark { name: format!("within_reach, r = {r}"), n: Some(n), passes: 1, build: Box::new(move || within_reach(n, r, count)) });
     }
     list.extend(SHEETS.map(|row| of_sheet("sheet", bench, row)));
     list.extend(SHEETS.into_iter().filter(|row| WRITTEN.contains(&row.0)).map(|row| of_sheet("write", write, row)));
@@ -204,6 +209,29 @@ fn stores(n: usize, symbol: impl Fn(&mut Random, &[u16]) -> u64) -> Box<dyn Pair
         inputs(INPUTS, input),
         on_levels(n, move |levels, &symbol, _| spent(turretmedlar::store(levels, m, symbol).unwrap())),
         on_levels(n, move |levels, &symbol, _| model::store(levels, m, symbol).unwrap()),
+    )
+}
+
+/// The lent list, which the first call makes as long as the listing, and how many permutations it has.
+#[derive(Debug, Default, PartialEq)]
+struct Listing {
+    list: Vec<u8>,
+    permutations: usize,
+}
+
+fn listed(n: usize, r: usize, job: impl Fn(&[u16], &mut [u8]) -> usize) -> impl Fn(&[u16; 20], &mut Listing) {
+    let bytes = n * falling(n, r) as usize;
+    move |levels, listing| {
+        listing.list.resize(bytes, 0);
+        listing.permutations = job(&levels[..n], &mut listing.list);
+    }
+}
+
+fn within_reach(n: usize, r: usize, count: usize) -> Box<dyn Pair> {
+    pair(
+        inputs(count, |random| levels(random, n)),
+        listed(n, r, move |levels, list| turretmedlar::within_reach(levels, r, list).unwrap()),
+        listed(n, r, move |levels, list| model::within_reach(levels, r, list).unwrap()),
     )
 }
 

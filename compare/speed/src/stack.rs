@@ -10,13 +10,14 @@ pub const STACK: &str = "stack";
 
 const STEP: usize = 16;
 
-const JOBS: [(&str, fn()); 10] = [
+const JOBS: [(&str, fn()); 11] = [
     ("rank", || done(turretmedlar::rank(permutation()))),
     ("unrank", || done(turretmedlar::unrank(20, factorial(20) - 1))),
     ("count_up by 60,000", || done(turretmedlar::count_up(&mut low(), 60_000))),
     ("rewrite", || done(turretmedlar::rewrite(&mut low(), permutation(), &mut [0; 20]))),
     ("store", || done(turretmedlar::store(&mut low(), factorial(20), factorial(20) - 1))),
     ("read_symbol_bands", || done(turretmedlar::read_symbol_bands(&sure()[0], &sure()[1], factorial(20)))),
+    ("within_reach, r = 2", || done(turretmedlar::within_reach(&low(), 2, &mut vec![0; 65_536]))),
     ("bench, 1,000 rewrites", || bench("longest")),
     ("bench, 1,000 stores", || bench("thousand-stores")),
     ("write_sheet, 1,000 rewrites", || write("longest")),

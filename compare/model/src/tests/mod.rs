@@ -3,6 +3,7 @@
 mod bands;
 mod charge;
 mod definitions;
+mod reach;
 mod readings;
 mod refusals;
 mod sheets;
