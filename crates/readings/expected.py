@@ -33,7 +33,7 @@ def do_walk(steps, every, n, *names):
 JOBS = dict(rank=do_rank, digits=do_digits, successor=do_successor, push=do_push, run_steps=do_run_steps, unrank=do_unrank, read=do_read,
             push_level=do_push_level, count_up=do_count_up, run_levels=do_run_levels, run_calls=do_run_calls, rewrite=do_rewrite, prefix=do_prefix,
             store=do_store, read_symbol=do_read_symbol, symbols=do_symbols, write=do_write, read_bands=do_read_bands,
-            read_symbol_bands=do_read_symbol_bands)
+            read_symbol_bands=do_read_symbol_bands, reach=do_reach, **{"reach-sum": do_reach_sum})
 
 
 def answer(line):
@@ -105,6 +105,18 @@ BANDS = {"read_bands 3 lowest 10 1 5 highest 12 4 9": "0 3 | 1 3 2", "read_bands
          "read_symbol_bands 1 on 2 lowest 7 7 highest 7 7": "0 0", "read_bands 1 lowest 5 highest 5 6": "1 0 | 0", "read_bands 2 lowest 5 7 highest 4": "2 0 | 0",
          "read_symbol_bands 0 on 2 lowest 5 7 highest 4 6 9": "2 0", "read_bands 3 lowest 5 5 7 highest 6 6 6": "5 0 | 0",
          "read_symbol_bands 5 on 4 lowest 5 1 7 2 highest 6 4 9 1": "5 0", "read_symbol_bands 3 on 2 lowest 7 7 highest 7 7": "5 0"}
+
+# Document 02, request 6, by hand. From [1,2], [2,1], [1,3,2] and [1,2,3,4], "fewest pushes [..] first, then lexicographic sequence"; bytes that keep their values; no
+# ceiling; checksums; size, tie, value and fit, each before the next
+REACH = {"reach 0 2 | 2 1": "0 1 | 1 2", "reach 1 4 | 2 1": "0 2 | 1 2 2 1", "reach 1 4 | 1 2": "0 2 | 2 1 1 2", "reach 0 3 | 3 1 2": "0 1 | 1 3 2",
+         "reach 1 9 | 3 1 2": "0 3 | 1 3 2 2 1 3 3 1 2", "reach 2 18 | 3 1 2": "0 6 | 1 3 2 2 1 3 3 1 2 1 2 3 2 3 1 3 2 1",
+         "reach 1 16 | 4 3 2 1": "0 4 | 1 2 3 4 2 1 3 4 3 1 2 4 4 1 2 3",
+         "reach 2 48 | 4 3 2 1": "0 12 | 1 2 3 4 2 1 3 4 3 1 2 4 4 1 2 3 1 3 2 4 1 4 2 3 2 3 1 4 2 4 1 3 3 2 1 4 3 4 1 2 4 2 1 3 4 3 1 2",
+         "reach 1 12 | 3 1 2": "0 3 | 1 3 2 2 1 3 3 1 2 99 99 99", "reach 1 4 | 65535 0": "0 2 | 1 2 2 1", "reach-sum 1 4 | 2 1": "0 2 31776",
+         "reach-sum 1 6 | 2 1": "0 2 539814", "reach 1 0 | 5": "1 0 |", "reach 1 3 | 7 7": "4 0 | 99 99 99", "reach 2 4 | 7 7": "4 0 | 99 99 99 99",
+         "reach 2 3 | 1 2": "5 0 | 99 99 99", "reach 18446744073709551615 0 | 3 2 1": "5 0 |", "reach 1 3 | 1 2": "2 0 | 99 99 99"}
+# .. the bytes of the longest listings and of the shortest above 65,536, by n and r
+LISTINGS = {(8, 5): 53760, (16, 3): 53760, (17, 3): 69360}
 
 # Document 001. The text at hand has no pictures: of Example 1 it has the places, of Example 9 and Fig. 2 what is said of them, of the levels in Fig. 3 no numbers.
 EXAMPLE_1 = [2, 3, 3, 2, 3, 3]
@@ -346,7 +358,36 @@ def check_bands(lines):
         assert sum(word.isdigit() for word in line.split()) < 64, "what the program reads of a line"
 
 
-lines = Path(__file__).with_name("stdin").read_text().splitlines()
+def check_reach(lines):
+    for line, expected in REACH.items():
+        assert answer(line).split(" : ")[1] == expected and line in lines
+    # of every order of 2 to 5 cells, by trying all rows of pushes; "how many there are, n!/(n-r)!"; the readings have each r on these numbers of cells
+    for n in range(2, 6):
+        for order in permutations(range(1, n + 1)):
+            found = costs([*order])
+            for r in range(n):
+                within = sorted((cost, after) for after, cost in found.items() if cost <= r)
+                assert within_reach(gapless([*order]), r, n * len(within)) == (0, [after for _, after in within])
+                assert len(within) == factorial(n) // factorial(n - r)
+        assert all(" ".join(map(str, ["reach", r, n * perm(n, r), "|", *range(n, 0, -1)])) in lines for r in range(n))
+    sizes = {(n, r): n * perm(n, r) for n in range(2, 21) for r in range(n)}
+    assert {*LISTINGS.items()} <= {*sizes.items()} and all(size <= 53760 or size >= 69360 for size in sizes.values())
+    # in every reading the orders rise by document 01's number of a rewrite and then by names, so that each is there once; that many are said
+    asked = {}
+    for line in (line for line in lines if line.startswith("reach")):
+        r, room, *levels = [int(word) for word in line.split() if word.isdigit()]
+        number, orders = within_reach(levels, r, room)
+        assert room <= 65536 and len(levels) < 62 and len(answer(line)) < 65536, "what the program lends, reads of a line and writes"
+        asked.setdefault((len(levels), r), set()).add(number)
+        if number == 0:
+            keys = [(rewrite_count(read(levels), [*order]), order) for order in orders]
+            assert keys == sorted({*keys}) and keys[-1][0] == r and len(keys) * len(levels) == sizes[len(levels), r]
+    assert all(asked[key] == ({5} if size > 65536 else {0, 2}) for key, size in LISTINGS.items())
+
+
+text = Path(__file__).with_name("stdin").read_text()
+assert len(text) <= 65536, "what the program reads"
+lines = text.splitlines()
 check_document_01({*lines})
 check_document_001({*lines})
 check_symbols({*lines})
@@ -355,5 +396,6 @@ check_writing({*lines})
 check_runs({*lines})
 check_charges({*lines})
 check_bands({*lines})
+check_reach({*lines})
 for line in lines:
     print(answer(line))

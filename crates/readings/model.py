@@ -1,6 +1,6 @@
 """A model of document 01's rules on lists, as the paper words them, with the storing rule of document 02's request 1 in place of its own, the writing of request 2,
-the charge of request 3 and the bands of request 4; nothing of the code. `expected.py` checks it against what documents 01, 02 and 001 print; the sheets of `sheets`
-are worked and written by it too."""
+the charge of request 3, the bands of request 4 and the listing of request 6; nothing of the code. `expected.py` checks it against what documents 01, 02 and 001
+print; the sheets of `sheets` are worked and written by it too."""
 from itertools import chain, product, repeat
 from math import factorial, perm, prod
 
@@ -453,3 +453,47 @@ def do_read_symbol_bands(m, n, *levels):
         return [REASONS["unsure"], 0]
     symbol = prefix_number([*range(1, n + 1)], [*prefix])
     return [REASONS["idle"], 0] if symbol >= m else [0, symbol]
+
+
+# Orders within reach, document 02, request 6.
+
+def least_pushes(order, r):
+    """Every order that r pushes or fewer lead to, with the least number that does: breadth first, by a push at each place."""
+    found, last = {(*order,): 0}, {(*order,)}
+    for count in range(1, r + 1):
+        last = {(*push([*met], i),) for met in last for i in range(2, len(order) + 1)} - found.keys()
+        found |= dict.fromkeys(last, count)
+    return found
+
+
+def within_reach(levels, r, room):
+    """The number, and the orders in the sequence of the listing: "Fewest pushes come first, then lexicographic sequence." Size, tie and value, and "fit, judged here
+    after value". "A value of r above n - 1, or a list that would exceed 65,536 bytes, is value"; n!/(n-r)! orders have n names apiece."""
+    n = len(levels)
+    number = lowest(**level_reasons(levels), value=r > n - 1 or n * perm(n, r) > 65536)
+    number = number or lowest(fit=room < n * perm(n, r))
+    if number:
+        return number, []
+    found = least_pushes(read(levels), r)
+    return 0, sorted(found, key=lambda order: (found[order], order))
+
+
+def listing(r, room, levels):
+    """The number, how many orders there are, and the lent bytes: those past the last order keep their 99."""
+    number, orders = within_reach(levels, r, room)
+    names = [name for order in orders for name in order]
+    return number, len(orders), names + [99] * (room - len(names))
+
+
+def do_reach(r, room, *levels):
+    number, count, lent = listing(r, room, levels)
+    return [number, count, "|", *lent]
+
+
+def do_reach_sum(r, room, *levels):
+    """For a long listing, a checksum of the lent bytes."""
+    number, count, lent = listing(r, room, levels)
+    total = 0
+    for byte in lent:
+        total = (total * 31 + byte) % 1000003
+    return [number, count, total]

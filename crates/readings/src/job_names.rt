@@ -40,7 +40,11 @@ pub const READ_BANDS: u8 = 19;
 
 pub const READ_SYMBOL_BANDS: u8 = 20;
 
-pub const NO_JOB: u8 = 21;
+pub const REACH: u8 = 21;
+
+pub const REACH_SUM: u8 = 22;
+
+pub const NO_JOB: u8 = 23;
 
 // A space past the line.
 fn letter(line: &[u8], i: usize) -> u8 {
@@ -68,6 +72,17 @@ fn job_of_read(line: &[u8]) -> u8 {
     }
 }
 
+fn job_of_reach(sixth: u8) -> u8 {
+    if sixth == b'-' { REACH_SUM } else { REACH }
+}
+
+fn job_of_re(line: &[u8]) -> u8 {
+    if letter(line, 3) == b'c' {
+        return job_of_reach(letter(line, 5));
+    }
+    job_of_read(line)
+}
+
 fn job_of_run(fifth: u8) -> u8 {
     match fifth {
         b's' => RUN_STEPS,
@@ -82,7 +97,7 @@ fn job_of_r(line: &[u8]) -> u8 {
     }
     match letter(line, 1) {
         b'a' => RANK,
-        b'e' => job_of_read(line),
+        b'e' => job_of_re(line),
         _ => job_of_run(letter(line, 4)),
     }
 }

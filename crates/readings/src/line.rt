@@ -6,6 +6,8 @@ use super::job_names::NO_JOB;
 use super::job_names::PREFIX;
 use super::job_names::PUSH;
 use super::job_names::RANK;
+use super::job_names::REACH;
+use super::job_names::REACH_SUM;
 use super::job_names::READ;
 use super::job_names::READ_BANDS;
 use super::job_names::READ_SYMBOL_BANDS;
@@ -27,6 +29,7 @@ use super::level_jobs::on_levels;
 use super::numbers::Numbers;
 use super::numbers::read_numbers;
 use super::numbers::record_from;
+use super::reach_jobs::on_reach;
 use super::rewriting_jobs::on_prefix;
 use super::rewriting_jobs::on_rewrite;
 use super::rewriting_jobs::on_symbols;
@@ -85,6 +88,7 @@ fn reply(text: &mut Text, at: usize, job: u8, numbers: &Numbers, count: usize) -
         PREFIX => on_prefix(text, at, numbers),
         WRITE => on_write(text, at, numbers),
         READ_BANDS..=READ_SYMBOL_BANDS => on_bands(text, at, job, numbers, count),
+        REACH..=REACH_SUM => on_reach(text, at, job, numbers, count),
         _ => on_levels(text, at, job, numbers, count),
     }
 }

@@ -7,6 +7,7 @@ mod jobs; // the jobs on permutations
 mod level_jobs; // the jobs on levels alone
 mod line; // a line and its input
 mod numbers; // the numbers of a line
+mod reach_jobs; // the permutations within reach
 mod rewriting_jobs; // rewriting, all symbols of a code, the prefix of one
 mod text; // text in a lent buffer
 mod walk; // a long walk along the cycle
