@@ -33,7 +33,7 @@ def do_walk(steps, every, n, *names):
 JOBS = dict(rank=do_rank, digits=do_digits, successor=do_successor, push=do_push, run_steps=do_run_steps, unrank=do_unrank, read=do_read,
             push_level=do_push_level, count_up=do_count_up, run_levels=do_run_levels, run_calls=do_run_calls, rewrite=do_rewrite, prefix=do_prefix,
             store=do_store, read_symbol=do_read_symbol, symbols=do_symbols, write=do_write, read_bands=do_read_bands,
-            read_symbol_bands=do_read_symbol_bands, reach=do_reach, **{"reach-sum": do_reach_sum})
+            read_symbol_bands=do_read_symbol_bands, reach=do_reach, reach_sum=do_reach_sum)
 
 
 def answer(line):
@@ -112,8 +112,8 @@ REACH = {"reach 0 2 | 2 1": "0 1 | 1 2", "reach 1 4 | 2 1": "0 2 | 1 2 2 1", "re
          "reach 1 9 | 3 1 2": "0 3 | 1 3 2 2 1 3 3 1 2", "reach 2 18 | 3 1 2": "0 6 | 1 3 2 2 1 3 3 1 2 1 2 3 2 3 1 3 2 1",
          "reach 1 16 | 4 3 2 1": "0 4 | 1 2 3 4 2 1 3 4 3 1 2 4 4 1 2 3",
          "reach 2 48 | 4 3 2 1": "0 12 | 1 2 3 4 2 1 3 4 3 1 2 4 4 1 2 3 1 3 2 4 1 4 2 3 2 3 1 4 2 4 1 3 3 2 1 4 3 4 1 2 4 2 1 3 4 3 1 2",
-         "reach 1 12 | 3 1 2": "0 3 | 1 3 2 2 1 3 3 1 2 99 99 99", "reach 1 4 | 65535 0": "0 2 | 1 2 2 1", "reach-sum 1 4 | 2 1": "0 2 31776",
-         "reach-sum 1 6 | 2 1": "0 2 539814", "reach 1 0 | 5": "1 0 |", "reach 1 3 | 7 7": "4 0 | 99 99 99", "reach 2 4 | 7 7": "4 0 | 99 99 99 99",
+         "reach 1 12 | 3 1 2": "0 3 | 1 3 2 2 1 3 3 1 2 99 99 99", "reach 1 4 | 65535 0": "0 2 | 1 2 2 1", "reach_sum 1 4 | 2 1": "0 2 31776",
+         "reach_sum 1 6 | 2 1": "0 2 539814", "reach 1 0 | 5": "1 0 |", "reach 1 3 | 7 7": "4 0 | 99 99 99", "reach 2 4 | 7 7": "4 0 | 99 99 99 99",
          "reach 2 3 | 1 2": "5 0 | 99 99 99", "reach 18446744073709551615 0 | 3 2 1": "5 0 |", "reach 1 3 | 1 2": "2 0 | 99 99 99"}
 # .. the bytes of the longest listings and of the shortest above 65,536, by n and r
 LISTINGS = {(8, 5): 53760, (16, 3): 53760, (17, 3): 69360}

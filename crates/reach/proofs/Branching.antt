@@ -18,8 +18,8 @@ use Rattle.theory.proofs.Cases.{by-test, by-name, eqb-sym}
 use Rattle.theory.proofs.Members.{Distinct, distinct-head, distinct-tail, distinct-without, member-first, member-later, member-differs, member-length, member-without, without-absent, without-one-length}
 use Rattle.theory.proofs.Rows.{Rearranged}
 use Rattle.theory.proofs.Numbering.{Over, prefixes-length, prefixes-at, prefixOf-length, prefixOf-over, flatMap-length}
-use Rattle.reach.specs.Reach.{keep}
-use Rattle.reach.specs.Listing.{away, awayUnder}
+use Rattle.reach.specs.Reach.{keep, atDistance}
+use Rattle.reach.specs.Listing.{startingWith}
 use Rattle.reach.proofs.Entries.{In, At, in-at, keep-none, keep-same, keep-under, keep-flatMap, flatMap-same, flatMap-none}
 use Rattle.reach.proofs.Nearing.{stands-test, away-test}
 
@@ -69,6 +69,9 @@ module _ {x : ℕ} {xs free : List ℕ} (v : Named free (x ∷ xs)) (c : ℕ) (m
   fewer : length (without (c ∷ []) (x ∷ xs)) ≡ length xs
   fewer = without-one-length c (x ∷ xs) (v .cells .distinct) here ∙ omega arith
 
+  fewer-names : length (without (c ∷ []) free) ≡ length xs
+  fewer-names = sym (less .cells .long) ∙ fewer
+
   module _ (t : List ℕ) (i : In t (prefixes (length xs) (without (c ∷ []) free))) where
     over : (length t ≡ length xs) × Over (without (c ∷ []) free) t
     over = prefix-in (length xs) (without (c ∷ []) free) (less .names) t i
@@ -112,28 +115,30 @@ module _ {x : ℕ} {xs free : List ℕ} (v : Named free (x ∷ xs)) where
   under-top = rw top-out at (named-less v x top-in)
 
   top-kept :
-      away (without (x ∷ []) free) xs 0 ≡ xs ∷ []
+      atDistance (without (x ∷ []) free) xs 0 ≡ xs ∷ []
       → keep (λ t. eqb (rewriteCount (x ∷ xs) (x ∷ t)) 0) (prefixes (length xs) (without (x ∷ []) free)) ≡ xs ∷ []
-  unfolding away
+  unfolding atDistance
   top-kept ih =
       keep-same _ (λ t. eqb (rewriteCount xs t) 0) (prefixes (length xs) (without (x ∷ []) free))
       (λ t i. stood v x top-in t i ∙ rw (top-out, eq-eqb x x refl) (and-true _))
-      ∙ ih
+      ∙ rw (fewer-names v x top-in) at ih
 
-  none-more : away (without (x ∷ []) free) xs 0 ≡ xs ∷ [] → away free (x ∷ xs) 0 ≡ (x ∷ xs) ∷ []
-  unfolding away
+  none-more : atDistance (without (x ∷ []) free) xs 0 ≡ xs ∷ [] → atDistance free (x ∷ xs) 0 ≡ (x ∷ xs) ∷ []
+  unfolding atDistance
   none-more ih =
+      rw (sym (v .cells .long)) (
       keep-prefixes (λ t. eqb (rewriteCount (x ∷ xs) t) 0) (length xs) free
       ∙ flatMap-same _ (λ c. cond (eqb c x) ((x ∷ xs) ∷ []) []) free (λ c m.
       by-name c x
       (λ q e. rw (e, q) (ap (map (λ t. x ∷ t)) (top-kept ih)))
       (λ q e. rw e (ap (map (λ t. c ∷ t)) (keep-none _ (prefixes (length xs) (without (c ∷ []) free)) (λ t i. stood v c m t i ∙ rw e (and-false (eqb (rewriteCount (without (c ∷ []) (x ∷ xs)) t) 0)))))))
       ∙ flatMap-one x ((x ∷ xs) ∷ []) free (v .names) top-in
+      )
 
-pub away-none : {free : List ℕ} (xs : List ℕ) → Named free xs → away free xs 0 ≡ xs ∷ []
-unfolding away prefixes rewriteCount
-away-none [] v = refl
-away-none (x ∷ xs) v = none-more v (away-none xs (under-top v))
+pub distance-none : {free : List ℕ} (xs : List ℕ) → Named free xs → atDistance free xs 0 ≡ xs ∷ []
+unfolding atDistance prefixes rewriteCount
+distance-none [] v = rw (sym (v .cells .long))
+distance-none (x ∷ xs) v = none-more v (distance-none xs (under-top v))
 
 -- ---- more pushes away
 
@@ -141,22 +146,24 @@ one-more : (d : ℕ) → eqb (suc d) 1 ≡ eqb d 0
 one-more d = by-name d 0 (λ q e. eq-eqb (suc d) 1 (ap suc q) ∙ sym e) (λ q e. ne-eqb (suc d) 1 (λ r. q (omega arith)) ∙ sym e)
 
 -- no cells are 0 pushes away from themselves
-away-empty : (free : List ℕ) (d : ℕ) → away free [] (suc d) ≡ []
-unfolding away prefixes rewriteCount
-away-empty free d = cc (ne-eqb 0 (suc d) (λ q. omega arith))
+distance-empty : {free : List ℕ} → Named free [] → (d : ℕ) → atDistance free [] (suc d) ≡ []
+unfolding atDistance prefixes rewriteCount
+distance-empty v d = rw (sym (v .cells .long), ne-eqb 0 (suc d) (λ q. omega arith))
 
-pub away-more : (free xs : List ℕ) (d : ℕ) → Named free xs → away free xs (suc d) ≡ flatMap (awayUnder free xs (suc d)) free
-unfolding away awayUnder flatMap
-away-more [] [] d v = away-empty [] d
-away-more (a ∷ free) [] d v = absurd (omega (arith, v .cells .long))
-away-more free (x ∷ xs) d v =
+pub distance-more : (free xs : List ℕ) (d : ℕ) → Named free xs → atDistance free xs (suc d) ≡ flatMap (startingWith free xs (suc d)) free
+unfolding atDistance startingWith flatMap
+distance-more [] [] d v = distance-empty v d
+distance-more (a ∷ free) [] d v = absurd (omega (arith, v .cells .long))
+distance-more free (x ∷ xs) d v =
+    rw (sym (v .cells .long)) (
     keep-prefixes (λ t. eqb (rewriteCount (x ∷ xs) t) (suc d)) (length xs) free
     ∙ flatMap-same _ _ free (λ c m.
     let one : eqb (suc d) 1 ≡ eqb d 0 = one-more d in
     let pred : suc d - 1 ≡ d = omega arith in
     by-test (eqb d 0 && eqb c x)
     (λ f. rw (one, f) (ap (map (λ t. c ∷ t)) (keep-none _ (prefixes (length xs) (without (c ∷ []) free)) (λ t i. left v c m t i d ∙ rw f))))
-    (λ f. rw (one, f, pred, fewer v c m) (ap (map (λ t. c ∷ t)) (keep-same _ _ (prefixes (length xs) (without (c ∷ []) free)) (λ t i. left v c m t i d ∙ rw f)))))
+    (λ f. rw (one, f, pred, fewer-names v c m) (ap (map (λ t. c ∷ t)) (keep-same _ _ (prefixes (length xs) (without (c ∷ []) free)) (λ t i. left v c m t i d ∙ rw f)))))
+    )
 
 -- ---- how many
 
@@ -182,25 +189,25 @@ flatMap-but-one f a (b ∷ cs) d m none one =
       member-length a cs later,
     ))
 
-pub away-many : (d : ℕ) (free xs : List ℕ) → Named free xs → length (away free xs (suc d)) ≡ falling (length xs) d * (length xs - suc d)
-unfolding awayUnder flatMap
-away-many zero free [] v = ap length (away-empty free 0)
-away-many (suc d) free [] v = ap length (away-empty free (suc d)) ∙ omega arith
-away-many zero free (x ∷ xs) v =
-    ap length (away-more free (x ∷ xs) 0 v)
-    ∙ flatMap-but-one (awayUnder free (x ∷ xs) 1) x free (v .names) (top-in v)
+pub distance-many : (d : ℕ) (free xs : List ℕ) → Named free xs → length (atDistance free xs (suc d)) ≡ falling (length xs) d * (length xs - suc d)
+unfolding startingWith flatMap
+distance-many zero free [] v = ap length (distance-empty v 0)
+distance-many (suc d) free [] v = ap length (distance-empty v (suc d)) ∙ omega arith
+distance-many zero free (x ∷ xs) v =
+    ap length (distance-more free (x ∷ xs) 0 v)
+    ∙ flatMap-but-one (startingWith free (x ∷ xs) 1) x free (v .names) (top-in v)
     (rw (eq-eqb x x refl))
-    (λ c m e. rw (e, away-none _ (named-less v c m)))
+    (λ c m e. rw (e, distance-none _ (named-less v c m)))
     ∙ omega (arith, v .cells .long)
-away-many (suc d) free (x ∷ xs) v =
+distance-many (suc d) free (x ∷ xs) v =
     let w : ℕ = falling (length xs) d * (length xs - suc d) in
     let pred : suc (suc d) - 1 ≡ suc d = omega arith in
     let one : suc (length xs) - 1 ≡ length xs = omega arith in
     let two : suc (length xs) - suc (suc d) ≡ length xs - suc d = omega arith in
-    ap length (away-more free (x ∷ xs) (suc d) v)
-    ∙ flatMap-length (awayUnder free (x ∷ xs) (suc (suc d))) w free (λ c m.
+    ap length (distance-more free (x ∷ xs) (suc d) v)
+    ∙ flatMap-length (startingWith free (x ∷ xs) (suc (suc d))) w free (λ c m.
     rw (ne-eqb (suc (suc d)) 1 (λ q. omega arith), pred) (
-    length-map (away (without (c ∷ []) free) (without (c ∷ []) (x ∷ xs)) (suc d)) (λ t. c ∷ t)
-    ∙ away-many d (without (c ∷ []) free) (without (c ∷ []) (x ∷ xs)) (named-less v c m)
+    length-map (atDistance (without (c ∷ []) free) (without (c ∷ []) (x ∷ xs)) (suc d)) (λ t. c ∷ t)
+    ∙ distance-many d (without (c ∷ []) free) (without (c ∷ []) (x ∷ xs)) (named-less v c m)
     ∙ rw (fewer v c m)))
     ∙ rw (one, two, sym (v .cells .long)) (sym (mul-assoc (suc (length xs)) (falling (length xs) d) (length xs - suc d)))

@@ -58,7 +58,7 @@ reaching-as :
     {n r many : ℕ} {xs : List ℕ} {entry other : ℕ → List ℕ} → ((i : ℕ) → i < many → other i ≡ entry i)
     → Reaching n xs r many entry → Reaching n xs r many other
 reaching-as same v = record {
-  count = v .count;
+  counted = v .counted;
   permutation = λ i h. rw (same i h) (v .permutation i h);
   near = λ i h. rw (same i h) (v .near i h);
   every = λ is p s. let f = v .every is p s in record { index = f .index; within = f .within; here = same (f .index) (f .within) ∙ f .here };

@@ -19,9 +19,10 @@ use Rattle.theory.proofs.Rows.{Rearranged}
 use Rattle.theory.proofs.Prefixes.{names-distinct}
 use Rattle.theory.proofs.Storing.{others-below}
 use Rattle.permutation.specs.Insert.{putIn}
-use Rattle.reach.specs.Listing.{away, awayUnder, behind, led, ledThen, LedRow}
+use Rattle.reach.specs.Reach.{atDistance}
+use Rattle.reach.specs.Listing.{startingWith, behind, led, ledThen, LedRow}
 use Rattle.reach.proofs.Behind.{behind-under, behind-flatMap, flatMap-without}
-use Rattle.reach.proofs.Branching.{Named, away-none, away-more}
+use Rattle.reach.proofs.Branching.{Named, distance-none, distance-more}
 
 -- a cell whose place is one of a list stands there
 placeOf-member : (c : ℕ) (xs : List ℕ) → placeOf c xs ≤ length xs → member c xs ≡ true
@@ -103,16 +104,16 @@ module _ {row : List ℕ} {n p d : ℕ} (v : LedRow row n p d) where
   -- no push: the row's own permutation
   pub led-none : d ≡ 0 → led n row p d ≡ cells
   unfolding led flatten
-  led-none e = rw (e, away-none rest rest-named) (append-nil (kept ++ rest) ∙ parts)
+  led-none e = rw (e, distance-none rest rest-named) (append-nil (kept ++ rest) ∙ parts)
 
   -- the cell behind the first p is each name in turn
   pub led-more : 1 ≤ d → led n row p d ≡ flatMap (ledThen n row p d) (names n)
   unfolding led ledThen
   led-more h =
       let q : suc (d - 1) ≡ d = omega arith in
-      ap (behind kept) (rw q at (away-more free rest (d - 1) rest-named))
-      ∙ behind-flatMap kept (awayUnder free rest d) free
-      ∙ flatMap-without kept (λ c. behind kept (awayUnder free rest d c)) (names n)
+      ap (behind kept) (rw q at (distance-more free rest (d - 1) rest-named))
+      ∙ behind-flatMap kept (startingWith free rest d) free
+      ∙ flatMap-without kept (λ c. behind kept (startingWith free rest d c)) (names n)
 
   -- cell c, at index i of the row from p on, or nowhere there where i is n
   module _ (c : ℕ) {i : ℕ} (at : i + 1 ≡ p + placeOf c rest) where
@@ -136,7 +137,7 @@ module _ {row : List ℕ} {n p d : ℕ} (v : LedRow row n p d) where
 
       -- on top of the others, with one push left
       pub then-top : i + d ≡ p + 1 → 1 ≤ d → ledThen n row p d c ≡ []
-      unfolding ledThen awayUnder flatten
+      unfolding ledThen startingWith flatten
       then-top e one =
           let first : placeOf c rest ≡ 1 = omega (arith, placeOf-low c rest) in
           let is-top : c ≡ top rest = sym (rw first at (cellAt-placeOf c rest in-rest)) in
@@ -232,11 +233,11 @@ module _ {row : List ℕ} {n p d : ℕ} (v : LedRow row n p d) where
       }
 
       pub then-next : (i + d ≡ p + 1 → ⊥) → ledThen n row p d c ≡ led n next (p + 1) (d - 1)
-      unfolding ledThen awayUnder led
+      unfolding ledThen startingWith led
       then-next ne =
           let pushed : (eqb d 1 && eqb c (top rest)) ≡ false =
           by-name d 1
           (λ one e. rw e (ne-eqb c (top rest) (λ r. ne (omega (arith, one, ap (λ (b : ℕ). placeOf b rest) r, placeOf-getD rest 0 (rest-named .cells .distinct) (omega (arith, short)))))))
           (λ more e. rw e) in
           rw (not-kept, pushed, next-kept, next-rest, ← without-without (c ∷ []) kept (names n))
-          (behind-under kept c (away (without (c ∷ []) free) (without (c ∷ []) rest) (d - 1)))
+          (behind-under kept c (atDistance (without (c ∷ []) free) (without (c ∷ []) rest) (d - 1)))

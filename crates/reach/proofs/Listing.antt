@@ -8,13 +8,12 @@ use lib.ListN.{length, getD, take, drop, set, length-append}
 use lib.Seq.{sets, length-take-le, slice-cons, slice-empty}
 use borrow.Author.Tests.{eq-eqb, ne-eqb}
 use Rattle.theory.specs.Lists.{namesFrom, names}
-use Rattle.theory.specs.Permutation.{IsPermutation, placeOf}
+use Rattle.theory.specs.Permutation.{placeOf}
 use Rattle.theory.proofs.Members.{without-none}
 use Rattle.reach.specs.Reach.{atDistance, withinReach}
 use Rattle.reach.specs.Listing.{led, behind, HasRoom}
 use Rattle.reach.proofs.Entries.{flatMap-same}
 use Rattle.reach.proofs.Behind.{behind-none, behind-flatMap}
-use Rattle.reach.proofs.Reaching.{distance-away}
 use Rattle.reach.proofs.Putting.{Putting, put-start, put-step, put-end}
 
 -- ---- the first n names of a row
@@ -89,19 +88,20 @@ module _ (f : ℕ → List ℕ) where
 -- ---- by distance
 
 -- no cell is kept
-led-all : (n : ℕ) (row : List ℕ) → IsPermutation n (take n row) → (d : ℕ) → behind [] (atDistance n (take n row) d) ≡ led n row 0 d
+led-all : (n : ℕ) (row : List ℕ) (d : ℕ) → behind [] (atDistance (names n) (take n row) d) ≡ led n row 0 d
 unfolding led
-led-all n row o d = rw (without-none [] (names n) (λ c m. refl), distance-away o d)
+led-all n row d = rw (without-none [] (names n) (λ c m. refl))
 
 -- all distances up to r
-pub within-led : (n : ℕ) (row : List ℕ) → IsPermutation n (take n row) → (r : ℕ)
+pub within-led :
+    (n : ℕ) (row : List ℕ) (r : ℕ)
     → flatten (withinReach n (take n row) r) ≡ flatMap (led n row 0) (namesFrom 0 (r + 1 - 0))
 unfolding withinReach
-within-led n row o r =
+within-led n row r =
     let q : r + 1 - 0 ≡ r + 1 = omega arith in
     let ds : List ℕ = namesFrom 0 (r + 1) in
     rw q (
-    sym (behind-none (flatMap (atDistance n (take n row)) ds))
-    ∙ behind-flatMap [] (atDistance n (take n row)) ds
-    ∙ flatMap-same _ _ ds (λ d m. led-all n row o d)
+    sym (behind-none (flatMap (atDistance (names n) (take n row)) ds))
+    ∙ behind-flatMap [] (atDistance (names n) (take n row)) ds
+    ∙ flatMap-same _ _ ds (λ d m. led-all n row d)
     )

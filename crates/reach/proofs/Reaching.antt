@@ -15,7 +15,7 @@ use Rattle.theory.specs.Factorial.{factorial, falling}
 use Rattle.theory.specs.Permutation.{IsPermutation}
 use Rattle.theory.specs.Push.{pushes, Places, pushCell, pushCells, cellPlaces}
 use Rattle.theory.specs.Rewrite.{rewriteCount, rewritePushes}
-use Rattle.theory.specs.Prefix.{prefixAt}
+use Rattle.theory.specs.Prefix.{prefixes, prefixAt}
 use Rattle.theory.specs.Claims.{Rewriting}
 use Rattle.theory.proofs.Cases.{by-order}
 use Rattle.theory.proofs.Factorials.{falling-quotient}
@@ -27,32 +27,34 @@ use Rattle.theory.proofs.Prefixes.{names-distinct, permutation-prefix, numberin
 use Rattle.theory.proofs.Storing.{others-below}
 use Rattle.reach.specs.Reach.{keep, permutations, atDistance, withinReach}
 use Rattle.reach.specs.Claims.{LeastPushes, Reaching, Listings}
-use Rattle.reach.specs.Listing.{away}
 use Rattle.reach.proofs.Entries.{In, at-in, in-at, keep-in, keep-out, flatMap-in, flatMap-out}
 use Rattle.reach.proofs.Sorted.{Sorted, sorted-at, at-sorted, sorted-keep, sorted-flatMap, sorted-as}
-use Rattle.reach.proofs.Branching.{Named, prefix-in, away-none, away-many}
+use Rattle.reach.proofs.Branching.{Named, prefix-in, distance-none, distance-many}
 
 -- ---- all permutations
 
-pub in-permutation : {n : ℕ} {t : List ℕ} → In t (permutations n) → IsPermutation n t
+all-prefixes : (n : ℕ) → permutations (names n) ≡ prefixes n (names n)
+all-prefixes n = rw (names-length 1 n)
+
+in-permutation : {n : ℕ} {t : List ℕ} → In t (permutations (names n)) → IsPermutation n t
 in-permutation {n} {t} m =
-    let over = prefix-in n (names n) (names-distinct n) t m in
+    let over = prefix-in n (names n) (names-distinct n) t (rw (all-prefixes n) at m) in
     let k : Rearranged (names n) (t ++ without t (names n)) = others-below (names n) (names-distinct n) t (over .1 .distinct) (over .1 .named) in
     let none : without t (names n) ≡ [] =
     drop-of-length-le (without t (names n)) {i = 0} (omega (arith, over .0, length-append t (without t (names n)), k .long, names-length 1 n)) in
     let all : Rearranged (names n) t = rw (none, append-nil t) at k in
     names-permutation (over .0) (all .distinct) (λ c. sym (all .same c))
 
-pub permutation-in : {n : ℕ} {t : List ℕ} → IsPermutation n t → In t (permutations n)
+permutation-in : {n : ℕ} {t : List ℕ} → IsPermutation n t → In t (permutations (names n))
 unfolding prefixAt
 permutation-in {n} {t} o =
     let whole : take n t ≡ t = take-all n t (omega (arith, o .long)) in
     let w = numbering n n (omega arith) .prefix-number t (permutation-prefix n t (omega arith) o) in
-    Memᴰ·cast (sym (w .1 ∙ whole)) (at-in (permutations n) _ (w .0))
+    rw (all-prefixes n) (Memᴰ·cast (sym (w .1 ∙ whole)) (at-in (prefixes n (names n)) _ (w .0)))
 
-permutations-rise : (n : ℕ) → Sorted (Lexᴰ _<_) (permutations n)
+permutations-rise : (n : ℕ) → Sorted (Lexᴰ _<_) (permutations (names n))
 unfolding prefixAt
-permutations-rise n = at-sorted (Lexᴰ _<_) (permutations n) (numbering n n (omega arith) .lexicographic)
+permutations-rise n = rw (all-prefixes n) (at-sorted (Lexᴰ _<_) (prefixes n (names n)) (numbering n n (omega arith) .lexicographic))
 
 -- ---- the least number of pushes
 
@@ -94,45 +96,45 @@ module _ {n : ℕ} {xs : List ℕ} (pos : 1 ≤ n) (o : IsPermutation n xs) wher
 -- ---- what is within reach
 
 module _ (n : ℕ) (xs : List ℕ) where
-  distance-out : {t : List ℕ} (d : ℕ) → In t (atDistance n xs d) → In t (permutations n) × (rewriteCount xs t ≡ d)
+  distance-out : {t : List ℕ} (d : ℕ) → In t (atDistance (names n) xs d) → In t (permutations (names n)) × (rewriteCount xs t ≡ d)
   unfolding atDistance
   distance-out {t} d m =
-      let k = keep-out (λ u. eqb (rewriteCount xs u) d) (permutations n) m in
+      let k = keep-out (λ u. eqb (rewriteCount xs u) d) (permutations (names n)) m in
       (k .0, eqb-true (rewriteCount xs t) d (k .1))
 
   pub within-out : {t : List ℕ} (r : ℕ) → In t (withinReach n xs r) → IsPermutation n t × (rewriteCount xs t ≤ r)
   unfolding withinReach
   within-out r m =
-      let k = flatMap-out (atDistance n xs) (namesFrom 0 (r + 1)) m in
+      let k = flatMap-out (atDistance (names n) xs) (namesFrom 0 (r + 1)) m in
       let u = distance-out (k .0) (k .2) in
       (in-permutation (u .0), omega (arith, u .1, names-high 0 (r + 1) (k .0) (k .1)))
 
   within-in : {t : List ℕ} (r : ℕ) → IsPermutation n t → rewriteCount xs t ≤ r → In t (withinReach n xs r)
   unfolding withinReach atDistance
   within-in {t} r p l =
-      flatMap-in (atDistance n xs) (namesFrom 0 (r + 1)) (rewriteCount xs t) (names-member 0 (r + 1) (rewriteCount xs t) (omega arith) (omega arith))
-      (keep-in (λ u. eqb (rewriteCount xs u) (rewriteCount xs t)) (permutations n) (permutation-in p) (eq-eqb (rewriteCount xs t) (rewriteCount xs t) refl))
+      flatMap-in (atDistance (names n) xs) (namesFrom 0 (r + 1)) (rewriteCount xs t) (names-member 0 (r + 1) (rewriteCount xs t) (omega arith) (omega arith))
+      (keep-in (λ u. eqb (rewriteCount xs u) (rewriteCount xs t)) (permutations (names n)) (permutation-in p) (eq-eqb (rewriteCount xs t) (rewriteCount xs t) refl))
 
   -- u comes before t
   abbrev Before : List ℕ → List ℕ → Type 0
   Before u t = (rewriteCount xs u < rewriteCount xs t) ⊎ ((rewriteCount xs u ≡ rewriteCount xs t) × Lexᴰ _<_ u t)
 
-  distance-sorted : (d : ℕ) → Sorted Before (atDistance n xs d)
+  distance-sorted : (d : ℕ) → Sorted Before (atDistance (names n) xs d)
   unfolding atDistance
   distance-sorted d =
       let test : List ℕ → Bool = λ t. eqb (rewriteCount xs t) d in
-      sorted-as (Lexᴰ _<_) Before (keep test (permutations n))
+      sorted-as (Lexᴰ _<_) Before (keep test (permutations (names n)))
       (λ a b i j k. inr (
-        eqb-true (rewriteCount xs a) d (keep-out test (permutations n) i .1)
-            ∙ sym (eqb-true (rewriteCount xs b) d (keep-out test (permutations n) j .1)),
+        eqb-true (rewriteCount xs a) d (keep-out test (permutations (names n)) i .1)
+            ∙ sym (eqb-true (rewriteCount xs b) d (keep-out test (permutations (names n)) j .1)),
         k,
       ))
-      (sorted-keep (Lexᴰ _<_) test (permutations n) (permutations-rise n))
+      (sorted-keep (Lexᴰ _<_) test (permutations (names n)) (permutations-rise n))
 
   within-sorted : (r : ℕ) → Sorted Before (withinReach n xs r)
   unfolding withinReach
   within-sorted r =
-      sorted-flatMap Before (atDistance n xs) (namesFrom 0 (r + 1)) (names-ascending 0 (r + 1)) distance-sorted
+      sorted-flatMap Before (atDistance (names n) xs) (namesFrom 0 (r + 1)) (names-ascending 0 (r + 1)) distance-sorted
       (λ b c l t u i j. inl (omega (arith, distance-out b i .1, distance-out c j .1)))
 
 -- ---- how many
@@ -145,25 +147,21 @@ falling-last n (suc k) =
     ∙ ap (λ (m : ℕ). n * falling (n - 1) k * m) (omega arith)
 
 module _ {n : ℕ} {xs : List ℕ} (o : IsPermutation n xs) where
-  pub cells-named : Named (names n) xs
+  cells-named : Named (names n) xs
   cells-named = record {
     names = names-distinct n;
     cells = record { distinct = permutation-distinct o; same = λ c. sym (permutation-member o c); long = o .long ∙ sym (names-length 1 n) };
   }
 
-  pub distance-away : (d : ℕ) → atDistance n xs d ≡ away (names n) xs d
-  unfolding atDistance away
-  distance-away d = rw (o .long)
-
   -- past those up to a pushes away
-  further-many : (a k : ℕ) → a + k ≤ n → falling n a + length (flatMap (atDistance n xs) (namesFrom (suc a) k)) ≡ falling n (a + k)
+  further-many : (a k : ℕ) → a + k ≤ n → falling n a + length (flatMap (atDistance (names n) xs) (namesFrom (suc a) k)) ≡ falling n (a + k)
   unfolding flatMap
   further-many a zero l = let q : a + 0 ≡ a = omega arith in rw q (omega arith)
   further-many a (suc k) l =
-      let here : List (List ℕ) = atDistance n xs (suc a) in
-      let more : List (List ℕ) = flatMap (atDistance n xs) (namesFrom (suc (suc a)) k) in
+      let here : List (List ℕ) = atDistance (names n) xs (suc a) in
+      let more : List (List ℕ) = flatMap (atDistance (names n) xs) (namesFrom (suc (suc a)) k) in
       let many : length here ≡ falling n a * (n - suc a) =
-      ap length (distance-away (suc a)) ∙ rw (o .long) at (away-many a (names n) xs cells-named) in
+      rw (o .long) at (distance-many a (names n) xs cells-named) in
       let split : n - a ≡ suc (n - suc a) = omega arith in
       let sum : falling n a + length here ≡ falling n (suc a) = omega (arith, rw split at (falling-last n a)) in
       let q : suc a + k ≡ a + suc k = omega arith in
@@ -174,8 +172,8 @@ module _ {n : ℕ} {xs : List ℕ} (o : IsPermutation n xs) where
   within-many r l =
       let one : r + 1 ≡ suc r = omega arith in
       let all : 0 + r ≡ r = omega arith in
-      let sum : 1 + length (flatMap (atDistance n xs) (namesFrom 1 r)) ≡ falling n r = rw all at (further-many 0 r (omega arith)) in
-      rw (one, distance-away 0, away-none xs cells-named) (omega (arith, sum, falling-quotient n r l))
+      let sum : 1 + length (flatMap (atDistance (names n) xs) (namesFrom 1 r)) ≡ falling n r = rw all at (further-many 0 r (omega arith)) in
+      rw (one, distance-none xs cells-named) (omega (arith, sum, falling-quotient n r l))
 
 pub reaching : {n : ℕ} {xs : List ℕ} → IsPermutation n xs → (r : ℕ) → r < n
     → Reaching n xs r (length (withinReach n xs r)) (λ i. getD (withinReach n xs r) i [])
@@ -189,7 +187,7 @@ reaching {n} {xs} o r l =
     ⊎-elim (λ k. omega (arith, ap (rewriteCount xs) e)) (λ k. Lexᴰ·irrefl (λ x s. omega arith) (getD ts j []) (rw e at (k .1))) (order i j less h) in
     let pos : 1 ≤ n = omega arith in
     record {
-      count = within-many o r (omega arith);
+      counted = within-many o r (omega arith);
       permutation = λ i h. entry i h .0;
       near = λ i h. record { distance = rewriteCount xs (getD ts i []); least = rewrite-least-pushes pos o (entry i h .0); within = entry i h .1 };
       every = λ is p s.

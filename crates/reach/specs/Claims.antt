@@ -33,7 +33,7 @@ pub record Listed (many : ℕ) (entry : ℕ → List ℕ) (t : List ℕ) : Type 
 -- a listing from xs has `many` entries, of which `entry i` is the one at index i
 pub record Reaching (n : ℕ) (xs : List ℕ) (r many : ℕ) (entry : ℕ → List ℕ) : Type 0 where
   -- "how many there are, n!/(n-r)!"
-  pub count : many ≡ factorial n / factorial (n - r)
+  pub counted : many ≡ factorial n / factorial (n - r)
   -- "every order whose least number of pushes from the present one [..] is at most r": the entries are such permutations, and each row of at most r pushes leads to one
   pub permutation : (i : ℕ) → i < many → IsPermutation n (entry i)
   pub near : (i : ℕ) → i < many → AtMost n xs (entry i) r

@@ -7,18 +7,12 @@ use lib.Dec.{eqb}
 use lib.ListN.{length, take, drop}
 use Rattle.theory.specs.Lists.{member, without, names}
 use Rattle.theory.specs.Permutation.{IsPermutation, top}
-use Rattle.theory.specs.Rewrite.{rewriteCount}
-use Rattle.theory.specs.Prefix.{prefixes}
-use Rattle.reach.specs.Reach.{keep, withinReach}
+use Rattle.reach.specs.Reach.{atDistance, withinReach}
 
--- what is d pushes away from the cells xs, in lexicographic sequence; `free` has their names, which ascend
-unfoldable pub away : List ℕ → List ℕ → ℕ → List (List ℕ)
-away free xs d = keep (λ t. eqb (rewriteCount xs t) d) (prefixes (length xs) free)
-
--- of these, for d from 1 on, those with cell c on top: the cells below it are then d - 1 pushes away; c on top now would need no push
-unfoldable pub awayUnder : List ℕ → List ℕ → ℕ → ℕ → List (List ℕ)
-awayUnder free xs d c =
-    cond (eqb d 1 && eqb c (top xs)) [] (map (λ t. c ∷ t) (away (without (c ∷ []) free) (without (c ∷ []) xs) (d - 1)))
+-- of what is d pushes away, for d from 1 on, what starts with cell c: behind it the others are d - 1 pushes away; but nothing where c is on top now and d is 1
+unfoldable pub startingWith : List ℕ → List ℕ → ℕ → ℕ → List (List ℕ)
+startingWith cells xs d c =
+    cond (eqb d 1 && eqb c (top xs)) [] (map (λ t. c ∷ t) (atDistance (without (c ∷ []) cells) (without (c ∷ []) xs) (d - 1)))
 
 -- lists one after another, each behind the cells of q
 abbrev pub behind : List ℕ → List (List ℕ) → List ℕ
@@ -26,13 +20,13 @@ behind q ts = flatten (map (λ t. q ++ t) ts)
 
 -- of the permutations of n cells that begin with the row's first p cells: those whose other cells are d pushes away from the row's
 unfoldable pub led : ℕ → List ℕ → ℕ → ℕ → List ℕ
-led n row p d = behind (take p row) (away (without (take p row) (names n)) (drop p (take n row)) d)
+led n row p d = behind (take p row) (atDistance (without (take p row) (names n)) (drop p (take n row)) d)
 
 -- of these, those that have c behind the first p
 unfoldable pub ledThen : ℕ → List ℕ → ℕ → ℕ → ℕ → List ℕ
 ledThen n row p d c =
     cond (member c (take p row)) []
-    (behind (take p row) (awayUnder (without (take p row) (names n)) (drop p (take n row)) d c))
+    (behind (take p row) (startingWith (without (take p row) (names n)) (drop p (take n row)) d c))
 
 -- a row that has a permutation of n cells, the first p of which are kept
 pub record LedRow (row : List ℕ) (n p d : ℕ) : Type 0 where

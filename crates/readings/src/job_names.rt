@@ -73,7 +73,7 @@ fn job_of_read(line: &[u8]) -> u8 {
 }
 
 fn job_of_reach(sixth: u8) -> u8 {
-    if sixth == b'-' { REACH_SUM } else { REACH }
+    if sixth == b'_' { REACH_SUM } else { REACH }
 }
 
 fn job_of_re(line: &[u8]) -> u8 {

@@ -19,7 +19,7 @@ abbrev μ-loop : tie.MeasureT-loop
 loop-holds : tie.Need-loop-holds Inv-loop μ-loop
 loop-holds c =
     let v = c .before .pre in
-    (omega arith, list-start _ (c .before .args .r + 1) 0 (within-led _ _ (v .permutation) _) (v .room))
+    (omega arith, list-start _ (c .before .args .r + 1) 0 (within-led _ _ _) (v .room))
 
 list-led-requires : tie.Need-list-led-requires Inv-loop μ-loop
 list-led-requires c κs =
