@@ -160,8 +160,8 @@ tm_pushes tm_count_up(uint16_t *levels, size_t n, uint32_t k);
 tm_pushes tm_rewrite(uint16_t *levels, size_t n, tm_permutation target, uint8_t *list, size_t room);
 
 /* Lists every permutation that r pushes or fewer lead to from the levels' own, each once, n names apiece, into the first bytes of `list`, which has `room`
- * bytes and may not overlap `levels`. Those that need the fewest pushes come first, and among these it goes by lexicographic sequence: the levels' own is the
- * first. Gives how many there are, n!/(n-r)!. Nothing is pushed, so that the ceiling does not matter. The listing has n times so many bytes, 65,536 at most.
+ * bytes and may not overlap `levels`. Those that need the fewest pushes come first, and those that need equally many in lexicographic sequence: the levels' own
+ * is the first. Gives how many there are, n!/(n-r)!. Nothing is pushed, so that the ceiling does not matter. The listing has n times so many bytes, 65,536 at most.
  * Refused: 1 size, n is not 2 to 20; 4 tie, two levels are equal; 5 value, r is above n - 1, or the listing would exceed 65,536 bytes; after these 2 fit, the
  * listing has more than `room` bytes.
  * Unchanged: `levels`, always, and the bytes of `list` after the listing; refused, all of `list`. */

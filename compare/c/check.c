@@ -162,7 +162,7 @@ static int reached(tm_reached answer, uint8_t number, size_t permutations) {
     return answer.number == number && answer.permutations == permutations;
 }
 
-/* Document 02, request 6: from [1,3,2] two permutations are one push away, and three need two. Then eight cells by five pushes, the longest listing; six would
+/* Document 02, request 6: from [1,3,2] two permutations are one push away, and three need two. Then eight cells by five pushes, than which no listing is longer; six would
  * exceed 65,536 bytes, whatever is lent. */
 static void check_reach(void) {
     const uint16_t before[3] = {65535, 3, 4}, tied[3] = {65535, 3, 65535}, eight[8] = {8, 7, 6, 5, 4, 3, 2, 1};

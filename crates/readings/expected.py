@@ -361,7 +361,7 @@ def check_bands(lines):
 def check_reach(lines):
     for line, expected in REACH.items():
         assert answer(line).split(" : ")[1] == expected and line in lines
-    # of every order of 2 to 5 cells, by trying all rows of pushes; "how many there are, n!/(n-r)!"; the readings have each r on these numbers of cells
+    # of every order of 2 to 5 cells, by trying all rows of pushes, where the model passes over what it has met; "how many there are, n!/(n-r)!"; the readings have each r on these numbers of cells
     for n in range(2, 6):
         for order in permutations(range(1, n + 1)):
             found = costs([*order])

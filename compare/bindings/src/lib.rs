@@ -164,7 +164,7 @@ pub fn rewrite(levels: &mut [u16], target: Permutation, list: &mut [u8]) -> Resu
 }
 
 /// Lists into the first bytes of `list`, n names apiece, every permutation that r pushes or fewer lead to from that of the levels: those that need the fewest
-/// first, and among these in lexicographic sequence. Gives how many there are, n!/(n-r)!; the later bytes keep their values. Nothing is pushed.
+/// first, and those that need equally many in lexicographic sequence. Gives how many there are, n!/(n-r)!; the later bytes keep their values. Nothing is pushed.
 /// Refused: Size, Tie, Value (r is above n - 1, or the listing would exceed 65,536 bytes), and then Fit, `list` is shorter than the listing.
 pub fn within_reach(levels: &[u16], r: usize, list: &mut [u8]) -> Result<usize, Reason> {
     let answer = raw::within_reach(levels, r, list);

@@ -19,7 +19,7 @@ const INPUTS: usize = 10_000;
 const SIZES: [usize; 3] = [4, 8, 20];
 /// Of count up: k, its name, and the number of inputs, fewer where a call takes long.
 const COUNTS: [(u32, &str, usize); 3] = [(1, "1", INPUTS), (100, "100", INPUTS / 10), (60_000, "60,000", 10)];
-/// Of listings: n, r, and the number of inputs, fewer where a call takes long. That of eight cells is the longest.
+/// Of listings: n, r, and the number of inputs, fewer where a call takes long. None is longer than that of eight cells.
 const LISTINGS: [(usize, usize, usize); 3] = [(4, 2, INPUTS), (8, 5, 10), (20, 2, 100)];
 /// Files of bench sheets, each with what it has and the passes of a round.
 const SHEETS: [(&str, &str, usize); 5] = [

@@ -17,7 +17,7 @@ const JOBS: [(&str, fn()); 11] = [
     ("rewrite", || done(turretmedlar::rewrite(&mut low(), permutation(), &mut [0; 20]))),
     ("store", || done(turretmedlar::store(&mut low(), factorial(20), factorial(20) - 1))),
     ("read_symbol_bands", || done(turretmedlar::read_symbol_bands(&sure()[0], &sure()[1], factorial(20)))),
-    ("within_reach, r = 2", || done(turretmedlar::within_reach(&low(), 2, &mut vec![0; 65_536]))),
+    ("within_reach, 7 cells, r = 6", || done(turretmedlar::within_reach(&low()[..7], 6, &mut vec![0; 65_536]))),
     ("bench, 1,000 rewrites", || bench("longest")),
     ("bench, 1,000 stores", || bench("thousand-stores")),
     ("write_sheet, 1,000 rewrites", || write("longest")),

@@ -1,5 +1,7 @@
 // The factorials of 0 to 20, as a table: all fit 64 bits.
 ghost use mathlib.Core.Path.{_≡_};
+ghost use Prim.Native.Nat.{_≤_};
+ghost use Rattle.theory.specs.Factorial as meaning;
 ghost use Rattle.ranking.specs.Factorials.{factorialTable, factorialWithin};
 
 const FACTORIALS: [u64; 21] = [
@@ -42,4 +44,12 @@ pub fn factorial(n: usize) -> u64
     }
     let table = factorial_table();
     table[n]
+}
+
+// n!/(n-p)!, by the table, which a job makes once. It fits 64 bits as n! does. For other crates: it asks for the table, at most twenty cells, and p at most n.
+pub fn falling(table: &[u64; 21], n: usize, p: usize) -> u64
+    requires { ⌜ (now table ≡ factorialTable) × (n ≤ 20) × (p ≤ n) ⌝ }
+    ensures { λ r. ⌜ r ≡ meaning.falling n p ⌝ }
+{
+    table[n] / table[n - p]
 }

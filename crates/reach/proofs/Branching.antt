@@ -1,5 +1,5 @@
--- What is d pushes away, by the cell on top: the cells themselves where d is 0, and else, for each name in turn, that cell on what is d - 1 pushes away from the
--- others. So it is counted. Assumes nothing.
+-- What is d pushes away, by the cell that it starts with: the cells themselves where d is 0, and else, for each name in turn, that cell before what is d - 1 pushes
+-- away from the others, but for the cell on top where d is 1. So it is counted. Assumes nothing.
 use mathlib.Core.Path.{_≡_, refl, ap, sym, _∙_}
 use mathlib.Core.Bool.{Bool, true, false, cond, not, _&&_, false≢true, and-true, and-false}
 use mathlib.Core.List.{List, [], _∷_, map, flatMap, append-nil}
@@ -19,7 +19,7 @@ use Rattle.theory.proofs.Members.{Distinct, distinct-head, distinct-tail, disti
 use Rattle.theory.proofs.Rows.{Rearranged}
 use Rattle.theory.proofs.Numbering.{Over, prefixes-length, prefixes-at, prefixOf-length, prefixOf-over, flatMap-length}
 use Rattle.reach.specs.Reach.{keep, atDistance}
-use Rattle.reach.specs.Listing.{startingWith}
+use Rattle.reach.specs.Led.{startingWith}
 use Rattle.reach.proofs.Entries.{In, At, in-at, keep-none, keep-same, keep-under, keep-flatMap, flatMap-same, flatMap-none}
 use Rattle.reach.proofs.Nearing.{stands-test, away-test}
 
@@ -29,7 +29,7 @@ pub record Named (free xs : List ℕ) : Type 0 where
   pub cells : Rearranged free xs
 
 -- one cell less
-pub named-less : {free xs : List ℕ} → Named free xs → (c : ℕ) → member c free ≡ true → Named (without (c ∷ []) free) (without (c ∷ []) xs)
+named-less : {free xs : List ℕ} → Named free xs → (c : ℕ) → member c free ≡ true → Named (without (c ∷ []) free) (without (c ∷ []) xs)
 named-less {free} {xs} v c m =
     let k : Rearranged free xs = v .cells in
     record {
@@ -58,36 +58,36 @@ keep-prefixes test p free =
     keep-flatMap test (λ c. map (λ t. c ∷ t) (prefixes p (without (c ∷ []) free))) free
     ∙ flatMap-same _ _ free (λ c m. keep-under test c (prefixes p (without (c ∷ []) free)))
 
--- the cells x ∷ xs, over the names of `free`, and one of them taken out
+-- the cells x ∷ xs, with the names of `free`, and one of them taken out
 module _ {x : ℕ} {xs free : List ℕ} (v : Named free (x ∷ xs)) (c : ℕ) (m : member c free ≡ true) where
-  here : member c (x ∷ xs) ≡ true
-  here = sym (v .cells .same c) ∙ m
+  cell-in : member c (x ∷ xs) ≡ true
+  cell-in = sym (v .cells .same c) ∙ m
 
-  less : Named (without (c ∷ []) free) (without (c ∷ []) (x ∷ xs))
-  less = named-less v c m
+  others : Named (without (c ∷ []) free) (without (c ∷ []) (x ∷ xs))
+  others = named-less v c m
 
-  fewer : length (without (c ∷ []) (x ∷ xs)) ≡ length xs
-  fewer = without-one-length c (x ∷ xs) (v .cells .distinct) here ∙ omega arith
+  others-fewer : length (without (c ∷ []) (x ∷ xs)) ≡ length xs
+  others-fewer = without-one-length c (x ∷ xs) (v .cells .distinct) cell-in ∙ omega arith
 
-  fewer-names : length (without (c ∷ []) free) ≡ length xs
-  fewer-names = sym (less .cells .long) ∙ fewer
+  names-fewer : length (without (c ∷ []) free) ≡ length xs
+  names-fewer = sym (others .cells .long) ∙ others-fewer
 
   module _ (t : List ℕ) (i : In t (prefixes (length xs) (without (c ∷ []) free))) where
-    over : (length t ≡ length xs) × Over (without (c ∷ []) free) t
-    over = prefix-in (length xs) (without (c ∷ []) free) (less .names) t i
+    is-prefix : (length t ≡ length xs) × Over (without (c ∷ []) free) t
+    is-prefix = prefix-in (length xs) (without (c ∷ []) free) (others .names) t i
 
-    out : member c t ≡ false
-    out =
+    cell-out : member c t ≡ false
+    cell-out =
         by-test (member c t)
-        (λ e. absurd (false≢true (sym (cc (member-without c (c ∷ []) free, eq-eqb c c refl)) ∙ over .1 .named c e)))
+        (λ e. absurd (false≢true (sym (cc (member-without c (c ∷ []) free, eq-eqb c c refl)) ∙ is-prefix .1 .named c e)))
         (λ e. e)
 
-    pub stood : eqb (rewriteCount (x ∷ xs) (c ∷ t)) 0 ≡ (eqb (rewriteCount (without (c ∷ []) (x ∷ xs)) t) 0 && eqb c x)
-    stood = stands-test c t (x ∷ xs) here out (ap suc (over .0))
+    standing-test : eqb (rewriteCount (x ∷ xs) (c ∷ t)) 0 ≡ (eqb (rewriteCount (without (c ∷ []) (x ∷ xs)) t) 0 && eqb c x)
+    standing-test = stands-test c t (x ∷ xs) cell-in cell-out (ap suc (is-prefix .0))
 
-    pub left : (d : ℕ) → eqb (rewriteCount (x ∷ xs) (c ∷ t)) (suc d)
+    pushed-test : (d : ℕ) → eqb (rewriteCount (x ∷ xs) (c ∷ t)) (suc d)
         ≡ (not (eqb d 0 && eqb c x) && eqb (rewriteCount (without (c ∷ []) (x ∷ xs)) t) d)
-    left d = away-test c t (x ∷ xs) here out (ap suc (over .0)) d
+    pushed-test d = away-test c t (x ∷ xs) cell-in cell-out (ap suc (is-prefix .0)) d
 
 -- ---- 0 pushes away
 
@@ -120,8 +120,8 @@ module _ {x : ℕ} {xs free : List ℕ} (v : Named free (x ∷ xs)) where
   unfolding atDistance
   top-kept ih =
       keep-same _ (λ t. eqb (rewriteCount xs t) 0) (prefixes (length xs) (without (x ∷ []) free))
-      (λ t i. stood v x top-in t i ∙ rw (top-out, eq-eqb x x refl) (and-true _))
-      ∙ rw (fewer-names v x top-in) at ih
+      (λ t i. standing-test v x top-in t i ∙ rw (top-out, eq-eqb x x refl) (and-true _))
+      ∙ rw (names-fewer v x top-in) at ih
 
   none-more : atDistance (without (x ∷ []) free) xs 0 ≡ xs ∷ [] → atDistance free (x ∷ xs) 0 ≡ (x ∷ xs) ∷ []
   unfolding atDistance
@@ -131,7 +131,7 @@ module _ {x : ℕ} {xs free : List ℕ} (v : Named free (x ∷ xs)) where
       ∙ flatMap-same _ (λ c. cond (eqb c x) ((x ∷ xs) ∷ []) []) free (λ c m.
       by-name c x
       (λ q e. rw (e, q) (ap (map (λ t. x ∷ t)) (top-kept ih)))
-      (λ q e. rw e (ap (map (λ t. c ∷ t)) (keep-none _ (prefixes (length xs) (without (c ∷ []) free)) (λ t i. stood v c m t i ∙ rw e (and-false (eqb (rewriteCount (without (c ∷ []) (x ∷ xs)) t) 0)))))))
+      (λ q e. rw e (ap (map (λ t. c ∷ t)) (keep-none _ (prefixes (length xs) (without (c ∷ []) free)) (λ t i. standing-test v c m t i ∙ rw e (and-false (eqb (rewriteCount (without (c ∷ []) (x ∷ xs)) t) 0)))))))
       ∙ flatMap-one x ((x ∷ xs) ∷ []) free (v .names) top-in
       )
 
@@ -161,8 +161,8 @@ distance-more free (x ∷ xs) d v =
     let one : eqb (suc d) 1 ≡ eqb d 0 = one-more d in
     let pred : suc d - 1 ≡ d = omega arith in
     by-test (eqb d 0 && eqb c x)
-    (λ f. rw (one, f) (ap (map (λ t. c ∷ t)) (keep-none _ (prefixes (length xs) (without (c ∷ []) free)) (λ t i. left v c m t i d ∙ rw f))))
-    (λ f. rw (one, f, pred, fewer-names v c m) (ap (map (λ t. c ∷ t)) (keep-same _ _ (prefixes (length xs) (without (c ∷ []) free)) (λ t i. left v c m t i d ∙ rw f)))))
+    (λ f. rw (one, f) (ap (map (λ t. c ∷ t)) (keep-none _ (prefixes (length xs) (without (c ∷ []) free)) (λ t i. pushed-test v c m t i d ∙ rw f))))
+    (λ f. rw (one, f, pred, names-fewer v c m) (ap (map (λ t. c ∷ t)) (keep-same _ _ (prefixes (length xs) (without (c ∷ []) free)) (λ t i. pushed-test v c m t i d ∙ rw f)))))
     )
 
 -- ---- how many
@@ -209,5 +209,5 @@ distance-many (suc d) free (x ∷ xs) v =
     rw (ne-eqb (suc (suc d)) 1 (λ q. omega arith), pred) (
     length-map (atDistance (without (c ∷ []) free) (without (c ∷ []) (x ∷ xs)) (suc d)) (λ t. c ∷ t)
     ∙ distance-many d (without (c ∷ []) free) (without (c ∷ []) (x ∷ xs)) (named-less v c m)
-    ∙ rw (fewer v c m)))
+    ∙ rw (others-fewer v c m)))
     ∙ rw (one, two, sym (v .cells .long)) (sym (mul-assoc (suc (length xs)) (falling (length xs) d) (length xs - suc d)))

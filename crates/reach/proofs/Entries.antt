@@ -13,7 +13,7 @@ use Rattle.theory.specs.Lists.{member}
 use Rattle.theory.proofs.Cases.{by-test, by-name}
 use Rattle.theory.proofs.Members.{member-first, member-later}
 use Rattle.reach.specs.Reach.{keep}
-use Rattle.reach.specs.Claims.{Listed}
+use Rattle.reach.specs.Claims.{IsEntry}
 
 abbrev pub In : List ℕ → List (List ℕ) → Type 0
 In t ts = List·Memᴰ t ts
@@ -26,7 +26,7 @@ at-in (t ∷ ts) zero h = List·Memᴰ·head refl
 at-in (t ∷ ts) (suc i) h = List·Memᴰ·tail (at-in ts i (le-of-suc-le-suc h))
 
 abbrev pub At : List ℕ → List (List ℕ) → Type 0
-At t ts = Listed (length ts) (λ i. getD ts i []) t
+At t ts = IsEntry (length ts) (λ i. getD ts i []) t
 
 pub in-at : {t : List ℕ} (ts : List (List ℕ)) → In t ts → At t ts
 in-at [] m = absurd (List·Memᴰ·not-nil m)
@@ -61,7 +61,7 @@ module _ (test : List ℕ → Bool) where
   keep-none [] h = refl
   keep-none (t ∷ ts) h = cc (h t (List·Memᴰ·head refl), keep-none ts (λ u m. h u (List·Memᴰ·tail m)))
 
-  pub keep-append : (ts us : List (List ℕ)) → keep test (ts ++ us) ≡ keep test ts ++ keep test us
+  keep-append : (ts us : List (List ℕ)) → keep test (ts ++ us) ≡ keep test ts ++ keep test us
   keep-append [] us = refl
   keep-append (t ∷ ts) us = by-test (test t) (λ f. cc (keep-append ts us)) (λ f. cc (keep-append ts us))
 

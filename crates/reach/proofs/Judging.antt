@@ -1,12 +1,12 @@
 -- What the job is judged by, and what it answers and leaves. Assumes nothing.
-use mathlib.Core.Path.{_≡_, refl, ap, sym, _∙_}
-use mathlib.Core.List.{List, [], _∷_, _++_, flatten, append-assoc}
-use mathlib.Core.List.List·Memᴰ.{List·Memᴰ·head, List·Memᴰ·tail}
-use Prim.Native.Nat.{ℕ, zero, suc, _+_, _-_, _*_, _/_, _≤_, _<_}
-use native.Mathlib.Nat.{div-lt-iff-lt-mul, le-of-suc-le-suc}
+use mathlib.Core.Path.{_≡_, ap, sym, _∙_}
+use mathlib.Core.Logic.{_↔_}
+use mathlib.Core.List.{List, _++_, flatten}
+use Prim.Native.Nat.{ℕ, _+_, _-_, _*_, _/_, _≤_, _<_}
+use native.Mathlib.Nat.{div-lt-iff-lt-mul}
 use native.Mathlib.Omega.{arith}
-use lib.ListN.{length, getD, take, drop, length-append}
-use lib.Seq.{sets, sets-eq, take-at, drop-drop, drop-at}
+use lib.ListN.{length, take, drop}
+use lib.Seq.{sets, sets-eq}
 use borrow.Author.Tests.{le-leb, lt-leb}
 use Rattle.theory.specs.Reasons.{fit, value}
 use Rattle.theory.specs.Factorial.{falling}
@@ -17,58 +17,11 @@ use Rattle.theory.proofs.Factorials.{falling-quotient}
 use Rattle.theory.proofs.Refusal.{refused, answered, orElse-refused, Readable, read-done}
 use Rattle.theory.proofs.Sorting.{permutationOf-permutation}
 use Rattle.reach.specs.Reach.{withinReach}
-use Rattle.reach.specs.Claims.{Reaching, entryOf}
 use Rattle.reach.specs.Answers.{reachCount, reachBytes, reachNumber, reachAnswer, reachList, ReachOf}
-use Rattle.reach.specs.Listing.{Reachable}
+use Rattle.reach.specs.Led.{LedRow, HasRoom}
 use Rattle.reach.specs.declared.answers.Reached.{Reached}
-use Rattle.reach.proofs.Entries.{In}
-use Rattle.reach.proofs.Reaching.{within-out, within-many, reaching}
-
--- ---- lists of n entries each, one after another
-
-module _ (n : ℕ) where
-  flatten-length : (ts : List (List ℕ)) → ((t : List ℕ) → In t ts → length t ≡ n) → length (flatten ts) ≡ length ts * n
-  unfolding flatten
-  flatten-length [] h = omega arith
-  flatten-length (t ∷ ts) h =
-      omega (arith, length-append t (flatten ts), h t (List·Memᴰ·head refl), flatten-length ts (λ u m. h u (List·Memᴰ·tail m)))
-
-  flatten-at :
-      (ts : List (List ℕ)) (past : List ℕ) → ((t : List ℕ) → In t ts → length t ≡ n) → (i : ℕ) → i < length ts
-      → entryOf n (flatten ts ++ past) i ≡ getD ts i []
-  unfolding flatten
-  flatten-at [] past h i l = absurd (omega arith)
-  flatten-at (t ∷ ts) past h zero l =
-      let q : 0 * n ≡ 0 = omega arith in
-      rw (q, append-assoc t (flatten ts) past) (take-at t (flatten ts ++ past) n (h t (List·Memᴰ·head refl)))
-  flatten-at (t ∷ ts) past h (suc i) l =
-      let q : suc i * n ≡ n + i * n = omega arith in
-      rw (q, append-assoc t (flatten ts) past, ← drop-drop (i * n) n (t ++ (flatten ts ++ past)), drop-at t (flatten ts ++ past) n (h t (List·Memᴰ·head refl)))
-      (flatten-at ts past (λ u m. h u (List·Memᴰ·tail m)) i (le-of-suc-le-suc l))
-
-module _ {n : ℕ} {xs : List ℕ} (o : IsPermutation n xs) (r : ℕ) where
-  entries-long : (t : List ℕ) → In t (withinReach n xs r) → length t ≡ n
-  entries-long t m = within-out n xs r m .0 .long
-
-  within-bytes : r < n → length (flatten (withinReach n xs r)) ≡ reachBytes n r
-  within-bytes l = flatten-length n (withinReach n xs r) entries-long ∙ ap (λ (k : ℕ). k * n) (within-many o r (omega arith))
-
--- what is claimed of a listing is claimed of its entries alone
-reaching-as :
-    {n r many : ℕ} {xs : List ℕ} {entry other : ℕ → List ℕ} → ((i : ℕ) → i < many → other i ≡ entry i)
-    → Reaching n xs r many entry → Reaching n xs r many other
-reaching-as same v = record {
-  counted = v .counted;
-  permutation = λ i h. rw (same i h) (v .permutation i h);
-  near = λ i h. rw (same i h) (v .near i h);
-  every = λ is p s. let f = v .every is p s in record { index = f .index; within = f .within; here = same (f .index) (f .within) ∙ f .here };
-  once = λ i j h k e. v .once i j h k (sym (same i h) ∙ e ∙ same j k);
-  sequence = λ i j l h a b u w.
-      let first = same i (omega arith) in
-      rw (first, same j h) (v .sequence i j l h a b (rw first at u) (rw (same j h) at w));
-}
-
--- ---- the job
+use Rattle.reach.proofs.Reaching.{within-many, reaching}
+use Rattle.reach.proofs.ListedBytes.{flatten-at, entries-long, within-bytes, reaching-as}
 
 -- on the levels L, by r, with the lent list `list`: what it answers, and the list that it leaves
 abbrev Answered : List ℕ → ℕ → List ℕ → Reached → List ℕ → Type 0
@@ -81,7 +34,7 @@ unfolding reachAnswer reachList
 job-refused L r list {a} {number} e is ne = (
   e ∙ refused (λ (number k : ℕ). record { number = number; permutations = k }) (reachCount (length L) r) 0 is ne,
   (
-    refused (λ number left. left) (flatten (withinReach (length L) (permutationOf L) r) ++ drop (reachBytes (length L) r) list) list is ne,
+    refused (λ number left. left) _ list is ne,
     λ z. absurd (ne (sym (ap (λ (a : Reached). a .number) e) ∙ z)),
   ),
 )
@@ -115,44 +68,41 @@ module _ (L : List ℕ) (r room : ℕ) where
       quotient : count ≡ reachCount n r
       quotient = is ∙ falling-quotient n r (omega arith)
 
-      -- a bound divided by n is below the count exactly where the bound is below the bytes
-      over : (bound : ℕ) → bound / n < count → bound < reachBytes n r
-      over bound h = rw quotient at (div-lt-iff-lt-mul {k = n} {x = bound} {y = count} (omega (arith, s .few)) .0 h)
-
-      within : (bound : ℕ) → count ≤ bound / n → reachBytes n r ≤ bound
-      within bound h =
-          by-le (reachBytes n r) bound
-          (λ l. l)
-          (λ l. absurd (omega (arith, div-lt-iff-lt-mul {k = n} {x = bound} {y = count} (omega (arith, s .few)) .1 (rw quotient l))))
+      -- the limit divided by n is below the count exactly where the limit is below the bytes
+      divided : (65536 / n < count) ↔ (65536 < count * n)
+      divided = div-lt-iff-lt-mul {k = n} {x = 65536} {y = count} (omega (arith, s .few))
 
       pub job-large : 65536 / n < count → value ≡ why
       unfolding reachNumber
-      job-large h = rw (read-done s, le-leb r (n - 1) (omega arith), lt-leb (reachBytes n r) 65536 (over 65536 h))
+      job-large h = rw (read-done s, le-leb r (n - 1) (omega arith), lt-leb (reachBytes n r) 65536 (rw quotient at (divided .0 h)))
 
       module _ (small : count ≤ 65536 / n) where
-        pub job-short : room / n < count → fit ≡ why
+        pub job-small : count * n ≤ 65536
+        job-small = by-le (count * n) 65536 (λ l. l) (λ l. absurd (omega (arith, divided .1 l)))
+
+        pub job-short : room < count * n → fit ≡ why
         unfolding reachNumber
         job-short h =
             rw (
               read-done s,
               le-leb r (n - 1) (omega arith),
-              le-leb (reachBytes n r) 65536 (within 65536 small),
-              lt-leb (reachBytes n r) room (over room h),
+              le-leb (reachBytes n r) 65536 (rw quotient at job-small),
+              lt-leb (reachBytes n r) room (rw quotient at h),
             )
 
-        module _ (fits : count ≤ room / n) where
+        module _ (fits : count * n ≤ room) where
           accepted : why ≡ 0
           unfolding reachNumber
           accepted =
               rw (
                 read-done s,
                 le-leb r (n - 1) (omega arith),
-                le-leb (reachBytes n r) 65536 (within 65536 small),
-                le-leb (reachBytes n r) room (within room fits),
+                le-leb (reachBytes n r) 65536 (rw quotient at job-small),
+                le-leb (reachBytes n r) room (rw quotient at fits),
               )
 
           pub job-taken : Taken L r room count
-          job-taken = record { readable = s; near = near; counted = quotient; fits = within room fits; number = accepted }
+          job-taken = record { readable = s; near = near; counted = quotient; fits = rw quotient at fits; number = accepted }
 
 -- a job that is done, on a row that has the present permutation
 module _ (L : List ℕ) (r : ℕ) (list : List ℕ) {count : ℕ} (v : Taken L r (length list) count)
@@ -160,14 +110,11 @@ module _ (L : List ℕ) (r : ℕ) (list : List ℕ) {count : ℕ} (v : Taken L r
   present : IsPermutation (length L) (permutationOf L)
   present = permutationOf-permutation L
 
-  pub job-reachable : Reachable list row (length L) r
-  job-reachable = record {
-    few = v .readable .many;
-    long = long;
-    near = v .near;
-    permutation = rw sorted present;
-    room = rw sorted (omega (arith, within-bytes present r (v .near), v .fits));
-  }
+  pub job-led : LedRow row (length L) 0 r × HasRoom list 0 (flatten (withinReach (length L) (take (length L) row) r))
+  job-led = (
+    record { few = v .readable .many; long = long; first = omega arith; most = omega (arith, v .near); permutation = rw sorted present },
+    rw sorted (omega (arith, within-bytes present r (v .near), v .fits)),
+  )
 
   pub job-done : {left : List ℕ} → left ≡ sets list 0 (flatten (withinReach (length L) (take (length L) row) r))
       → Answered L r list (record { number = 0; permutations = count }) left

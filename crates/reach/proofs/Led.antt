@@ -1,5 +1,6 @@
--- A row whose first p cells are kept: what is d pushes away, by the cell that comes behind them, and the row in which that cell is there. Assumes nothing.
-use mathlib.Core.Path.{_≡_, ap, sym, _∙_}
+-- A row whose first p cells lead: what is d pushes away, by the cell that comes behind them, and the row in which that cell is there. And all that is within reach,
+-- distance after distance. Assumes nothing.
+use mathlib.Core.Path.{_≡_, refl, ap, sym, _∙_}
 use mathlib.Core.Bool.{true, false, _&&_, _||_, false≢true}
 use mathlib.Core.List.{List, [], _∷_, _++_, flatMap, flatten, append-assoc, append-nil}
 use Prim.Native.Nat.{ℕ, suc, _+_, _-_, _≤_, _<_}
@@ -8,55 +9,23 @@ use lib.Dec.{eqb}
 use lib.ListN.{length, getD, take, drop, length-append, length-drop, take-append-drop}
 use lib.Seq.{length-take-le, take-take, take-at, drop-at, take-add, drop-drop, split-at, drop-append-le}
 use borrow.Author.Tests.{eq-eqb, ne-eqb}
-use Rattle.theory.specs.Lists.{count, member, without, names}
+use Rattle.theory.specs.Lists.{namesFrom, member, without, names}
 use Rattle.theory.specs.Permutation.{IsPermutation, top, placeOf}
 use Rattle.theory.proofs.Cases.{by-test, by-name}
-use Rattle.theory.proofs.Counts.{count-append}
-use Rattle.theory.proofs.Members.{Distinct, permutation-distinct, distinct-left, distinct-drop, distinct-apart, distinct-without, member-append, member-without, without-without, without-at}
+use Rattle.theory.proofs.Counts.{adds-between}
+use Rattle.theory.proofs.Permutations.{moved}
+use Rattle.theory.proofs.Members.{Distinct, permutation-distinct, distinct-left, distinct-drop, distinct-apart, distinct-without, member-append, member-without, without-none, without-without, without-at}
 use Rattle.theory.proofs.Names.{names-length, names-member, permutation-member}
-use Rattle.theory.proofs.Places.{placeOf-low, placeOf-high, placeOf-getD, cellAt-placeOf}
+use Rattle.theory.proofs.Places.{placeOf-low, placeOf-high, placeOf-member, placeOf-getD, cellAt-placeOf}
 use Rattle.theory.proofs.Rows.{Rearranged}
 use Rattle.theory.proofs.Prefixes.{names-distinct}
 use Rattle.theory.proofs.Storing.{others-below}
 use Rattle.permutation.specs.Insert.{putIn}
-use Rattle.reach.specs.Reach.{atDistance}
-use Rattle.reach.specs.Listing.{startingWith, behind, led, ledThen, LedRow}
-use Rattle.reach.proofs.Behind.{behind-under, behind-flatMap, flatMap-without}
+use Rattle.reach.specs.Reach.{atDistance, withinReach}
+use Rattle.reach.specs.Led.{startingWith, eachAfter, led, ledThen, LedRow}
+use Rattle.reach.proofs.EachAfter.{after-none, after-more, after-flatMap, flatMap-without}
+use Rattle.reach.proofs.Entries.{flatMap-same}
 use Rattle.reach.proofs.Branching.{Named, distance-none, distance-more}
-
--- a cell whose place is one of a list stands there
-placeOf-member : (c : ℕ) (xs : List ℕ) → placeOf c xs ≤ length xs → member c xs ≡ true
-unfolding placeOf
-placeOf-member c [] h = absurd (omega arith)
-placeOf-member c (x ∷ xs) h =
-    by-name c x
-    (λ q e. cc)
-    (λ q e. rw e (placeOf-member c xs (omega (arith, rw (ne-eqb x c (λ r. q (sym r))) at h))))
-
--- a cell brought up behind u
-moved-permutation :
-    {n : ℕ} {xs : List ℕ} (u a : List ℕ) (c : ℕ) (b : List ℕ) → xs ≡ u ++ (a ++ c ∷ b) → IsPermutation n xs
-    → IsPermutation n (u ++ c ∷ (a ++ b))
-moved-permutation u a c b e o = record {
-  long = omega (
-    arith,
-    length-append u (c ∷ (a ++ b)),
-    length-append a b,
-    ap length e,
-    length-append u (a ++ c ∷ b),
-    length-append a (c ∷ b),
-    o .long,
-  );
-  once = λ k low high. omega (
-    arith,
-    count-append k u (c ∷ (a ++ b)),
-    count-append k a b,
-    ap (count k) e,
-    count-append k u (a ++ c ∷ b),
-    count-append k a (c ∷ b),
-    o .once k low high,
-  );
-}
 
 module _ {row : List ℕ} {n p d : ℕ} (v : LedRow row n p d) where
   abbrev kept : List ℕ
@@ -72,10 +41,10 @@ module _ {row : List ℕ} {n p d : ℕ} (v : LedRow row n p d) where
   free = without kept (names n)
 
   kept-long : length kept ≡ p
-  kept-long = ap length (sym (take-take p n row (v .within))) ∙ length-take-le p cells (omega (arith, v .within, v .permutation .long))
+  kept-long = ap length (sym (take-take p n row (v .first))) ∙ length-take-le p cells (omega (arith, v .first, v .permutation .long))
 
   parts : kept ++ rest ≡ cells
-  parts = ap (λ (l : List ℕ). l ++ rest) (sym (take-take p n row (v .within))) ∙ take-append-drop p cells
+  parts = ap (λ (l : List ℕ). l ++ rest) (sym (take-take p n row (v .first))) ∙ take-append-drop p cells
 
   rest-long : length rest ≡ n - p
   rest-long = length-drop p cells ∙ rw (v .permutation .long)
@@ -111,9 +80,9 @@ module _ {row : List ℕ} {n p d : ℕ} (v : LedRow row n p d) where
   unfolding led ledThen
   led-more h =
       let q : suc (d - 1) ≡ d = omega arith in
-      ap (behind kept) (rw q at (distance-more free rest (d - 1) rest-named))
-      ∙ behind-flatMap kept (startingWith free rest d) free
-      ∙ flatMap-without kept (λ c. behind kept (startingWith free rest d c)) (names n)
+      ap (eachAfter kept) (rw q at (distance-more free rest (d - 1) rest-named))
+      ∙ after-flatMap kept (startingWith free rest d) free
+      ∙ flatMap-without kept (λ c. eachAfter kept (startingWith free rest d c)) (names n)
 
   -- cell c, at index i of the row from p on, or nowhere there where i is n
   module _ (c : ℕ) {i : ℕ} (at : i + 1 ≡ p + placeOf c rest) where
@@ -122,14 +91,14 @@ module _ {row : List ℕ} {n p d : ℕ} (v : LedRow row n p d) where
     unfolding ledThen
     then-kept low high e =
         let out : member c rest ≡ false =
-        by-test (member c rest) (λ m. absurd (omega (arith, placeOf-high c rest m, rest-long, v .within))) (λ m. m) in
+        by-test (member c rest) (λ m. absurd (omega (arith, placeOf-high c rest m, rest-long, v .first))) (λ m. m) in
         let named : member c (names n) ≡ true = names-member 1 n c low (omega arith) in
         let in-kept : member c kept ≡ true = by-test (member c kept) (λ m. m) (λ m. cc (in-parts c)) in
         rw in-kept
 
     module _ (there : i < n) where
       in-rest : member c rest ≡ true
-      in-rest = placeOf-member c rest (omega (arith, rest-long, v .within))
+      in-rest = placeOf-member c rest (omega (arith, rest-long, v .first))
 
       not-kept : member c kept ≡ false
       not-kept =
@@ -164,7 +133,7 @@ module _ {row : List ℕ} {n p d : ℕ} (v : LedRow row n p d) where
           let sum : p + (i - p) ≡ i = omega (arith, placeOf-low c rest) in
           let cut : take i row ≡ take p cells ++ take (i - p) rest =
           sym (take-take i n row (omega arith)) ∙ rw sum at (take-add p (i - p) cells) in
-          sym (ap (drop p) cut ∙ drop-at (take p cells) (take (i - p) rest) p (length-take-le p cells (omega (arith, v .within, v .permutation .long))))
+          sym (ap (drop p) cut ∙ drop-at (take p cells) (take (i - p) rest) p (length-take-le p cells (omega (arith, v .first, v .permutation .long))))
 
       below-is : drop (suc (i - p)) rest ≡ below
       below-is =
@@ -181,7 +150,9 @@ module _ {row : List ℕ} {n p d : ℕ} (v : LedRow row n p d) where
       without-rest = rw (← index, above-is, below-is) at (without-at rest (i - p) (rest-named .cells .distinct) short)
 
       front : IsPermutation n (kept ++ c ∷ (above ++ below))
-      front = moved-permutation kept above c below (sym parts ∙ ap (λ (l : List ℕ). kept ++ l) cut-rest) (v .permutation)
+      front =
+          let now : cells ≡ (kept ++ above) ++ c ∷ below = sym parts ∙ rw cut-rest (sym (append-assoc kept above (c ∷ below))) in
+          moved (rw (append-assoc kept above below) at (adds-between (kept ++ above) below now)) (adds-between kept (above ++ below) refl) (v .permutation)
 
       next-cells : take n next ≡ kept ++ c ∷ (above ++ below)
       next-cells =
@@ -227,8 +198,8 @@ module _ {row : List ℕ} {n p d : ℕ} (v : LedRow row n p d) where
       next-led = record {
         few = v .few;
         long = next-long;
-        within = omega (arith, placeOf-low c rest);
-        near = omega (arith, v .near);
+        first = omega (arith, placeOf-low c rest);
+        most = omega (arith, v .most);
         permutation = rw next-cells front;
       }
 
@@ -240,4 +211,25 @@ module _ {row : List ℕ} {n p d : ℕ} (v : LedRow row n p d) where
           (λ one e. rw e (ne-eqb c (top rest) (λ r. ne (omega (arith, one, ap (λ (b : ℕ). placeOf b rest) r, placeOf-getD rest 0 (rest-named .cells .distinct) (omega (arith, short)))))))
           (λ more e. rw e) in
           rw (not-kept, pushed, next-kept, next-rest, ← without-without (c ∷ []) kept (names n))
-          (behind-under kept c (atDistance (without (c ∷ []) free) (without (c ∷ []) rest) (d - 1)))
+          (after-more kept c (atDistance (without (c ∷ []) free) (without (c ∷ []) rest) (d - 1)))
+
+-- ---- by distance
+
+-- no cell leads
+led-all : (n : ℕ) (row : List ℕ) (d : ℕ) → eachAfter [] (atDistance (names n) (take n row) d) ≡ led n row 0 d
+unfolding led
+led-all n row d = rw (without-none [] (names n) (λ c m. refl))
+
+-- all distances up to r
+pub within-led :
+    (n : ℕ) (row : List ℕ) (r : ℕ)
+    → flatten (withinReach n (take n row) r) ≡ flatMap (led n row 0) (namesFrom 0 (r + 1 - 0))
+unfolding withinReach
+within-led n row r =
+    let q : r + 1 - 0 ≡ r + 1 = omega arith in
+    let ds : List ℕ = namesFrom 0 (r + 1) in
+    rw q (
+    sym (after-none (flatMap (atDistance (names n) (take n row)) ds))
+    ∙ after-flatMap [] (atDistance (names n) (take n row)) ds
+    ∙ flatMap-same _ _ ds (λ d m. led-all n row d)
+    )

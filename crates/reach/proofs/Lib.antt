@@ -4,8 +4,9 @@ pub mod Nearing
 pub mod Branching
 pub mod Sorted
 pub mod Reaching
-pub mod Putting
-pub mod Behind
+pub mod EachAfter
 pub mod Led
-pub mod Listing
+pub mod Pieces
+pub mod RowLoops
+pub mod ListedBytes
 pub mod Judging

@@ -4,7 +4,7 @@ use mathlib.Core.Path.{_≡_, refl, ap, sym, _∙_}
 use mathlib.Core.Bool.{true, false, cond, not, _&&_, false≢true, and-false, and-eq-true-iff}
 use mathlib.Core.Logic.{⊎-elim}
 use mathlib.Core.List.{List, [], _∷_, Sublistᴰ, Sublistᴰ·trans, Sublistᴰ·cases-cons-cons}
-use mathlib.Core.List.Sublistᴰ.{Sublistᴰ·slnil, Sublistᴰ·cons, Sublistᴰ·cons-cons}
+use mathlib.Core.List.Sublistᴰ.{Sublistᴰ·cons}
 use Prim.Native.Nat.{ℕ, suc, _-_, _≤_}
 use native.Mathlib.Omega.{arith}
 use lib.Dec.{eqb}
@@ -15,26 +15,8 @@ use Rattle.theory.specs.Permutation.{top}
 use Rattle.theory.specs.Rewrite.{rewriteCount}
 use Rattle.theory.proofs.Cases.{by-test, by-name, by-le}
 use Rattle.theory.proofs.Members.{member-drop}
-use Rattle.theory.proofs.Sublists.{without-sublist}
+use Rattle.theory.proofs.Sublists.{without-sublist, sublist-without, sublist-long}
 use Rattle.theory.proofs.Rewriting.{rewrite-sublist, rewrite-least, top-sublist}
-
--- cells in sequence, without a cell that is none of them
-sublist-without : (c : ℕ) {s xs : List ℕ} → Sublistᴰ s xs → member c s ≡ false → Sublistᴰ s (without (c ∷ []) xs)
-sublist-without c Sublistᴰ·slnil out = Sublistᴰ·slnil
-sublist-without c (Sublistᴰ·cons {a = y} k) out =
-    by-test (member y (c ∷ []))
-    (λ e. rw e (sublist-without c k out))
-    (λ e. rw e (Sublistᴰ·cons (sublist-without c k out)))
-sublist-without c (Sublistᴰ·cons-cons {a = x} {b = y} {l₁ = s} q k) out =
-    by-name c x
-    (λ r e. absurd (false≢true (sym out ∙ rw e)))
-    (λ r e. rw (ne-eqb y c (λ w. r (sym w ∙ sym q))) (Sublistᴰ·cons-cons q (sublist-without c k (rw e at out))))
-
--- no more cells than the list has
-sublist-long : {s xs : List ℕ} → Sublistᴰ s xs → length s ≤ length xs
-sublist-long Sublistᴰ·slnil = omega arith
-sublist-long (Sublistᴰ·cons k) = omega (arith, sublist-long k)
-sublist-long (Sublistᴰ·cons-cons q k) = omega (arith, sublist-long k)
 
 -- a target c ∷ t of the cells xs
 module _ (c : ℕ) (t xs : List ℕ) (here : member c xs ≡ true) (out : member c t ≡ false) (long : suc (length t) ≡ length xs) where
@@ -81,7 +63,7 @@ module _ (c : ℕ) (t xs : List ℕ) (here : member c xs ≡ true) (out : member
       rewrite-least xs (c ∷ t) 0 (top-sublist c t xs here (sym (s .1)) out (Sublistᴰ·trans same (without-sublist (c ∷ []) xs))) in
       omega arith
 
-  pub first-cell : whole ≡ cond (eqb rest 0 && eqb c (top xs)) 0 (suc rest)
+  first-cell : whole ≡ cond (eqb rest 0 && eqb c (top xs)) 0 (suc rest)
   first-cell =
       by-test (eqb rest 0 && eqb c (top xs))
       (λ e.

@@ -2,9 +2,8 @@
 use mathlib.Core.Path.{_≡_, refl, ap, sym, _∙_}
 use mathlib.Core.Bool.{Bool}
 use mathlib.Core.Logic.{_⊎_, inl, inr, ⊎-elim}
-use mathlib.Core.List.{List, [], _∷_, _++_, append-nil, flatMap, Lexᴰ, Lexᴰ·irrefl, Memᴰ·cast}
+use mathlib.Core.List.{List, [], _++_, append-nil, flatMap, Lexᴰ, Lexᴰ·irrefl, Memᴰ·cast}
 use Prim.Native.Nat.{ℕ, zero, suc, _+_, _-_, _*_, _/_, _≤_, _<_}
-use native.Mathlib.Nat.{mul-assoc}
 use native.Mathlib.Omega.{arith}
 use lib.Dec.{eqb}
 use lib.ListN.{length, getD, take, length-append, drop-of-length-le}
@@ -13,30 +12,30 @@ use borrow.Author.Tests.{eq-eqb, eqb-true}
 use Rattle.theory.specs.Lists.{without, namesFrom, names}
 use Rattle.theory.specs.Factorial.{factorial, falling}
 use Rattle.theory.specs.Permutation.{IsPermutation}
-use Rattle.theory.specs.Push.{pushes, Places, pushCell, pushCells, cellPlaces}
+use Rattle.theory.specs.Push.{pushes, cellPlaces}
 use Rattle.theory.specs.Rewrite.{rewriteCount, rewritePushes}
 use Rattle.theory.specs.Prefix.{prefixes, prefixAt}
 use Rattle.theory.specs.Claims.{Rewriting}
 use Rattle.theory.proofs.Cases.{by-order}
-use Rattle.theory.proofs.Factorials.{falling-quotient}
+use Rattle.theory.proofs.Factorials.{falling-quotient, falling-last}
 use Rattle.theory.proofs.Members.{permutation-distinct}
 use Rattle.theory.proofs.Names.{names-length, names-high, names-member, names-ascending, names-permutation, permutation-member}
-use Rattle.theory.proofs.Rows.{Rearranged, pushes-rearranged}
+use Rattle.theory.proofs.Rows.{Rearranged, cellPlaces-length, pushes-cells, pushes-permutation}
 use Rattle.theory.proofs.Rewriting.{rewriting}
 use Rattle.theory.proofs.Prefixes.{names-distinct, permutation-prefix, numbering}
 use Rattle.theory.proofs.Storing.{others-below}
-use Rattle.reach.specs.Reach.{keep, permutations, atDistance, withinReach}
-use Rattle.reach.specs.Claims.{LeastPushes, Reaching, Listings}
+use Rattle.reach.specs.Reach.{keep, allPermutations, atDistance, withinReach}
+use Rattle.reach.specs.Claims.{LeastPushes, Reaching, ReachClaims}
 use Rattle.reach.proofs.Entries.{In, at-in, in-at, keep-in, keep-out, flatMap-in, flatMap-out}
 use Rattle.reach.proofs.Sorted.{Sorted, sorted-at, at-sorted, sorted-keep, sorted-flatMap, sorted-as}
 use Rattle.reach.proofs.Branching.{Named, prefix-in, distance-none, distance-many}
 
 -- ---- all permutations
 
-all-prefixes : (n : ℕ) → permutations (names n) ≡ prefixes n (names n)
+all-prefixes : (n : ℕ) → allPermutations (names n) ≡ prefixes n (names n)
 all-prefixes n = rw (names-length 1 n)
 
-in-permutation : {n : ℕ} {t : List ℕ} → In t (permutations (names n)) → IsPermutation n t
+in-permutation : {n : ℕ} {t : List ℕ} → In t (allPermutations (names n)) → IsPermutation n t
 in-permutation {n} {t} m =
     let over = prefix-in n (names n) (names-distinct n) t (rw (all-prefixes n) at m) in
     let k : Rearranged (names n) (t ++ without t (names n)) = others-below (names n) (names-distinct n) t (over .1 .distinct) (over .1 .named) in
@@ -45,61 +44,46 @@ in-permutation {n} {t} m =
     let all : Rearranged (names n) t = rw (none, append-nil t) at k in
     names-permutation (over .0) (all .distinct) (λ c. sym (all .same c))
 
-permutation-in : {n : ℕ} {t : List ℕ} → IsPermutation n t → In t (permutations (names n))
+permutation-in : {n : ℕ} {t : List ℕ} → IsPermutation n t → In t (allPermutations (names n))
 unfolding prefixAt
 permutation-in {n} {t} o =
     let whole : take n t ≡ t = take-all n t (omega (arith, o .long)) in
     let w = numbering n n (omega arith) .prefix-number t (permutation-prefix n t (omega arith) o) in
     rw (all-prefixes n) (Memᴰ·cast (sym (w .1 ∙ whole)) (at-in (prefixes n (names n)) _ (w .0)))
 
-permutations-rise : (n : ℕ) → Sorted (Lexᴰ _<_) (permutations (names n))
+permutations-rise : (n : ℕ) → Sorted (Lexᴰ _<_) (allPermutations (names n))
 unfolding prefixAt
 permutations-rise n = rw (all-prefixes n) (at-sorted (Lexᴰ _<_) (prefixes n (names n)) (numbering n n (omega arith) .lexicographic))
 
 -- ---- the least number of pushes
 
-cellPlaces-length : (cs xs : List ℕ) → length (cellPlaces cs xs) ≡ length cs
-cellPlaces-length [] xs = refl
-cellPlaces-length (c ∷ cs) xs = ap suc (cellPlaces-length cs (pushCell c xs))
-
--- a row of pushes of cells is the row of pushes at their places
-pushes-cells : (cs xs : List ℕ) → pushes (cellPlaces cs xs) xs ≡ pushCells cs xs
-unfolding pushCell
-pushes-cells [] xs = refl
-pushes-cells (c ∷ cs) xs = pushes-cells cs (pushCell c xs)
-
-pushed-permutation : {n : ℕ} {xs : List ℕ} → IsPermutation n xs → (is : List ℕ) → Places n is → IsPermutation n (pushes is xs)
-pushed-permutation {n} {xs} o is p =
-    let k : Rearranged xs (pushes is xs) = pushes-rearranged is xs (permutation-distinct o) (rw (o .long) p) in
-    names-permutation (k .long ∙ o .long) (k .distinct) (λ c. sym (k .same c) ∙ permutation-member o c)
-
 module _ {n : ℕ} {xs : List ℕ} (pos : 1 ≤ n) (o : IsPermutation n xs) where
   module _ {t : List ℕ} (p : IsPermutation n t) where
-    w : Rewriting n xs t
-    w = rewriting n xs t pos o p
+    to : Rewriting n xs t
+    to = rewriting n xs t pos o p
 
     -- it is that of a rewrite
     rewrite-least-pushes : LeastPushes n xs t (rewriteCount xs t)
     rewrite-least-pushes = record {
       row = cellPlaces (rewritePushes xs t) xs;
-      places = w .places;
-      many = cellPlaces-length (rewritePushes xs t) xs ∙ w .many;
-      leads = pushes-cells (rewritePushes xs t) xs ∙ w .reaches;
-      fewest = w .fewest;
+      places = to .places;
+      many = cellPlaces-length (rewritePushes xs t) xs ∙ to .many;
+      leads = pushes-cells (rewritePushes xs t) xs ∙ to .reaches;
+      fewest = to .fewest;
     }
 
     least-is : {k : ℕ} → LeastPushes n xs t k → rewriteCount xs t ≡ k
     least-is l =
         let r : LeastPushes n xs t (rewriteCount xs t) = rewrite-least-pushes in
-        omega (arith, w .fewest (l .row) (l .places) (l .leads), l .many, l .fewest (r .row) (r .places) (r .leads), r .many)
+        omega (arith, to .fewest (l .row) (l .places) (l .leads), l .many, l .fewest (r .row) (r .places) (r .leads), r .many)
 
 -- ---- what is within reach
 
 module _ (n : ℕ) (xs : List ℕ) where
-  distance-out : {t : List ℕ} (d : ℕ) → In t (atDistance (names n) xs d) → In t (permutations (names n)) × (rewriteCount xs t ≡ d)
+  distance-out : {t : List ℕ} (d : ℕ) → In t (atDistance (names n) xs d) → In t (allPermutations (names n)) × (rewriteCount xs t ≡ d)
   unfolding atDistance
   distance-out {t} d m =
-      let k = keep-out (λ u. eqb (rewriteCount xs u) d) (permutations (names n)) m in
+      let k = keep-out (λ u. eqb (rewriteCount xs u) d) (allPermutations (names n)) m in
       (k .0, eqb-true (rewriteCount xs t) d (k .1))
 
   pub within-out : {t : List ℕ} (r : ℕ) → In t (withinReach n xs r) → IsPermutation n t × (rewriteCount xs t ≤ r)
@@ -113,38 +97,31 @@ module _ (n : ℕ) (xs : List ℕ) where
   unfolding withinReach atDistance
   within-in {t} r p l =
       flatMap-in (atDistance (names n) xs) (namesFrom 0 (r + 1)) (rewriteCount xs t) (names-member 0 (r + 1) (rewriteCount xs t) (omega arith) (omega arith))
-      (keep-in (λ u. eqb (rewriteCount xs u) (rewriteCount xs t)) (permutations (names n)) (permutation-in p) (eq-eqb (rewriteCount xs t) (rewriteCount xs t) refl))
+      (keep-in (λ u. eqb (rewriteCount xs u) (rewriteCount xs t)) (allPermutations (names n)) (permutation-in p) (eq-eqb (rewriteCount xs t) (rewriteCount xs t) refl))
 
   -- u comes before t
-  abbrev Before : List ℕ → List ℕ → Type 0
-  Before u t = (rewriteCount xs u < rewriteCount xs t) ⊎ ((rewriteCount xs u ≡ rewriteCount xs t) × Lexᴰ _<_ u t)
+  abbrev Earlier : List ℕ → List ℕ → Type 0
+  Earlier u t = (rewriteCount xs u < rewriteCount xs t) ⊎ ((rewriteCount xs u ≡ rewriteCount xs t) × Lexᴰ _<_ u t)
 
-  distance-sorted : (d : ℕ) → Sorted Before (atDistance (names n) xs d)
+  distance-sorted : (d : ℕ) → Sorted Earlier (atDistance (names n) xs d)
   unfolding atDistance
   distance-sorted d =
       let test : List ℕ → Bool = λ t. eqb (rewriteCount xs t) d in
-      sorted-as (Lexᴰ _<_) Before (keep test (permutations (names n)))
+      sorted-as (Lexᴰ _<_) Earlier (keep test (allPermutations (names n)))
       (λ a b i j k. inr (
-        eqb-true (rewriteCount xs a) d (keep-out test (permutations (names n)) i .1)
-            ∙ sym (eqb-true (rewriteCount xs b) d (keep-out test (permutations (names n)) j .1)),
+        eqb-true (rewriteCount xs a) d (keep-out test (allPermutations (names n)) i .1)
+            ∙ sym (eqb-true (rewriteCount xs b) d (keep-out test (allPermutations (names n)) j .1)),
         k,
       ))
-      (sorted-keep (Lexᴰ _<_) test (permutations (names n)) (permutations-rise n))
+      (sorted-keep (Lexᴰ _<_) test (allPermutations (names n)) (permutations-rise n))
 
-  within-sorted : (r : ℕ) → Sorted Before (withinReach n xs r)
+  within-sorted : (r : ℕ) → Sorted Earlier (withinReach n xs r)
   unfolding withinReach
   within-sorted r =
-      sorted-flatMap Before (atDistance (names n) xs) (namesFrom 0 (r + 1)) (names-ascending 0 (r + 1)) distance-sorted
+      sorted-flatMap Earlier (atDistance (names n) xs) (namesFrom 0 (r + 1)) (names-ascending 0 (r + 1)) distance-sorted
       (λ b c l t u i j. inl (omega (arith, distance-out b i .1, distance-out c j .1)))
 
 -- ---- how many
-
-falling-last : (n k : ℕ) → falling n (suc k) ≡ falling n k * (n - k)
-falling-last n zero = omega arith
-falling-last n (suc k) =
-    ap (λ (m : ℕ). n * m) (falling-last (n - 1) k)
-    ∙ sym (mul-assoc n (falling (n - 1) k) (n - 1 - k))
-    ∙ ap (λ (m : ℕ). n * falling (n - 1) k * m) (omega arith)
 
 module _ {n : ℕ} {xs : List ℕ} (o : IsPermutation n xs) where
   cells-named : Named (names n) xs
@@ -181,7 +158,7 @@ reaching {n} {xs} o r l =
     let ts : List (List ℕ) = withinReach n xs r in
     let entry : (i : ℕ) → i < length ts → IsPermutation n (getD ts i []) × (rewriteCount xs (getD ts i []) ≤ r) =
     λ i h. within-out n xs r (at-in ts i h) in
-    let order : (i j : ℕ) → i < j → j < length ts → Before n xs (getD ts i []) (getD ts j []) = sorted-at (Before n xs) ts (within-sorted n xs r) in
+    let order : (i j : ℕ) → i < j → j < length ts → Earlier n xs (getD ts i []) (getD ts j []) = sorted-at (Earlier n xs) ts (within-sorted n xs r) in
     let apart : (i j : ℕ) → i < j → j < length ts → getD ts i [] ≡ getD ts j [] → ⊥ =
     λ i j less h e.
     ⊎-elim (λ k. omega (arith, ap (rewriteCount xs) e)) (λ k. Lexᴰ·irrefl (λ x s. omega arith) (getD ts j []) (rw e at (k .1))) (order i j less h) in
@@ -191,7 +168,7 @@ reaching {n} {xs} o r l =
       permutation = λ i h. entry i h .0;
       near = λ i h. record { distance = rewriteCount xs (getD ts i []); least = rewrite-least-pushes pos o (entry i h .0); within = entry i h .1 };
       every = λ is p s.
-          let q : IsPermutation n (pushes is xs) = pushed-permutation o is p in
+          let q : IsPermutation n (pushes is xs) = pushes-permutation o is p in
           in-at ts (within-in n xs r q (omega (arith, rewriting n xs (pushes is xs) pos o q .fewest is p refl)));
       once = λ i j h k e. by-order i j (λ s. absurd (apart i j s k e)) (λ s. absurd (apart j i s h (sym e))) (λ s. s);
       sequence = λ i j less h a b u v.
@@ -200,5 +177,5 @@ reaching {n} {xs} o r l =
           ⊎-elim (λ k. inl (omega arith)) (λ k. inr (sym eu ∙ k .0 ∙ ev, k .1)) (order i j less h);
     }
 
-pub listings : Listings
-listings = record { reaching = λ n xs o r l. reaching o r l }
+pub reach-claims : ReachClaims
+reach-claims = record { reaching = λ n xs o r l. reaching o r l }

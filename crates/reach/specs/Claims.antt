@@ -25,7 +25,7 @@ pub record AtMost (n : ℕ) (xs t : List ℕ) (r : ℕ) : Type 0 where
   pub within : distance ≤ r
 
 -- t is one of the first `many` entries
-pub record Listed (many : ℕ) (entry : ℕ → List ℕ) (t : List ℕ) : Type 0 where
+pub record IsEntry (many : ℕ) (entry : ℕ → List ℕ) (t : List ℕ) : Type 0 where
   pub index : ℕ
   pub within : index < many
   pub here : entry index ≡ t
@@ -34,13 +34,15 @@ pub record Listed (many : ℕ) (entry : ℕ → List ℕ) (t : List ℕ) : Type 
 pub record Reaching (n : ℕ) (xs : List ℕ) (r many : ℕ) (entry : ℕ → List ℕ) : Type 0 where
   -- "how many there are, n!/(n-r)!"
   pub counted : many ≡ factorial n / factorial (n - r)
-  -- "every order whose least number of pushes from the present one [..] is at most r": the entries are such permutations, and each row of at most r pushes leads to one
+  -- "n names apiece": each entry is a permutation
   pub permutation : (i : ℕ) → i < many → IsPermutation n (entry i)
+  -- "every order whose least number of pushes from the present one [..] is at most r": it is so of each entry, and each row of at most r pushes leads to an entry
   pub near : (i : ℕ) → i < many → AtMost n xs (entry i) r
-  pub every : (is : List ℕ) → Places n is → length is ≤ r → Listed many entry (pushes is xs)
+  pub every : (is : List ℕ) → Places n is → length is ≤ r → IsEntry many entry (pushes is xs)
   -- "each exactly once"
   pub once : (i j : ℕ) → i < many → j < many → entry i ≡ entry j → i ≡ j
-  -- "Fewest pushes come first, then lexicographic sequence."
+  -- "Fewest pushes come first, then lexicographic sequence." Of two entries the first has fewer (the left of `⊎`, or), or as many and comes first by its names, which
+  -- is what `Lexᴰ` says for their order by `<`
   pub sequence :
       (i j : ℕ) → i < j → j < many → (a b : ℕ) → LeastPushes n xs (entry i) a → LeastPushes n xs (entry j) b
       → (a < b) ⊎ ((a ≡ b) × Lexᴰ _<_ (entry i) (entry j))
@@ -50,7 +52,7 @@ abbrev pub entryOf : ℕ → List ℕ → ℕ → List ℕ
 entryOf n list i = take n (drop (i * n) list)
 
 -- what is proved of the meaning
-pub record Listings : Type 0 where
+pub record ReachClaims : Type 0 where
   pub reaching :
       (n : ℕ) (xs : List ℕ) → IsPermutation n xs → (r : ℕ) → r < n
       → Reaching n xs r (length (withinReach n xs r)) (λ i. getD (withinReach n xs r) i [])

@@ -2,4 +2,4 @@
 pub mod Reach
 pub mod Claims
 pub mod Answers
-pub mod Listing
+pub mod Led

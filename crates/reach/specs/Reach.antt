@@ -14,12 +14,12 @@ keep test [] = []
 keep test (t ∷ ts) = cond (test t) (t ∷ keep test ts) (keep test ts)
 
 -- all permutations of some cells, whose names ascend, in lexicographic sequence: the prefixes that have them all
-abbrev pub permutations : List ℕ → List (List ℕ)
-permutations cells = prefixes (length cells) cells
+abbrev pub allPermutations : List ℕ → List (List ℕ)
+allPermutations cells = prefixes (length cells) cells
 
--- those "whose least number of pushes from the present one", xs, is d: that of a rewrite
+-- those "whose least number of pushes from the present one", xs, is d: that of a rewrite, which `Rewriting.fewest` shows to be least; `Claims` says it by pushes alone
 unfoldable pub atDistance : List ℕ → List ℕ → ℕ → List (List ℕ)
-atDistance cells xs d = keep (λ t. eqb (rewriteCount xs t) d) (permutations cells)
+atDistance cells xs d = keep (λ t. eqb (rewriteCount xs t) d) (allPermutations cells)
 
 -- of n cells, those for which it "is at most r": 0, 1, .., r. "Fewest pushes come first, then lexicographic sequence."
 unfoldable pub withinReach : ℕ → List ℕ → ℕ → List (List ℕ)

@@ -6,11 +6,11 @@ ghost use lib.ListN.{length, take, drop};
 ghost use lib.Seq.{sets};
 ghost use Rattle.theory.specs.Permutation.{placeOf};
 ghost use Rattle.reach.specs.Reach.{withinReach};
-ghost use Rattle.reach.specs.Listing.{LedRow, HasRoom, Reachable, led, ledThen};
+ghost use Rattle.reach.specs.Led.{LedRow, HasRoom, led, ledThen};
 use permutation::insert::put_in;
 
 // The row's first n names go to the list from index `at` on.
-fn put_names(list: &mut [u8], at: usize, row: &[u8; 20], n: usize)
+fn list_names(list: &mut [u8], at: usize, row: &[u8; 20], n: usize)
     requires { ⌜ (n ≤ 20) × (length (now row) ≡ 20) × (at + n ≤ length (now list)) ⌝ }
     ensures { λ _. ⌜ now (list .exit) ≡ sets (now (list .entry)) at (take n (now (row .entry))) ⌝ }
 {
@@ -21,7 +21,7 @@ fn put_names(list: &mut [u8], at: usize, row: &[u8; 20], n: usize)
     }
 }
 
-// The index of cell c in the row, from index p on; n where it is not among the first n from there.
+// The index of cell c in the row, from p on; n where c is at no index from p to n - 1.
 fn index_from(row: &[u8; 20], p: usize, n: usize, c: u8) -> usize
     requires { ⌜ (p ≤ n) × (n ≤ 20) × (length (now row) ≡ 20) ⌝ }
     ensures { λ r. ⌜ (r + 1 ≡ p + placeOf c (drop p (take n (now (row .entry))))) × (p ≤ r) × (r ≤ n) ⌝ }
@@ -54,7 +54,7 @@ fn list_led_then(
     if i == n {
         return from;
     }
-    // i is p and d is 1: c stands there already, and no push is left for it
+    // i is p and d is 1: that would be the row's own permutation, 0 pushes away
     if i + d == p + 1 {
         return from;
     }
@@ -71,7 +71,7 @@ fn list_led(list: &mut [u8], from: usize, row: &[u8; 20], n: usize, p: usize, d:
     ensures listed { λ _. ⌜ now (list .exit) ≡ sets (now (list .entry)) from (led n (now (row .entry)) p d) ⌝ }
 {
     if d == 0 {
-        put_names(list, from, row, n);
+        list_names(list, from, row, n);
         return from + n;
     }
     let mut at = from;
@@ -85,7 +85,7 @@ fn list_led(list: &mut [u8], from: usize, row: &[u8; 20], n: usize, p: usize, d:
 
 // Those that are 0, 1, .., r pushes away, from the list's start.
 pub fn list_within(list: &mut [u8], cells: &[u8; 20], n: usize, r: usize)
-    requires { ⌜ Reachable (now list) (now cells) n r ⌝ }
+    requires { ⌜ LedRow (now cells) n 0 r × HasRoom (now list) 0 (flatten (withinReach n (take n (now cells)) r)) ⌝ }
     ensures { λ _. ⌜ now (list .exit) ≡ sets (now (list .entry)) 0 (flatten (withinReach n (take n (now (cells .entry))) r)) ⌝ }
 {
     let mut at: usize = 0;

@@ -10,7 +10,7 @@ use charge::sort::sort_cells;
 use permutation::reasons::FIT;
 use permutation::reasons::VALUE;
 use ranking::factorials::factorial_table;
-use symbols::prefix_length::falling;
+use ranking::factorials::falling;
 
 // `reaching`: what the list then has is what the rows of at most r pushes lead to, each once and in sequence.
 pub fn within_reach(levels: &[u16], r: usize, list: &mut [u8]) -> Reached
@@ -28,11 +28,11 @@ pub fn within_reach(levels: &[u16], r: usize, list: &mut [u8]) -> Reached
     }
     let table = factorial_table();
     let permutations = falling(&table, n, r) as usize;
-    // divided, since no product may overflow
+    // divided, since 20 times 20! does not fit
     if 65536 / n < permutations {
         return none_reached(VALUE);
     }
-    if list.len() / n < permutations {
+    if list.len() < permutations * n {
         return none_reached(FIT);
     }
     let mut cells = [0u8; 20];

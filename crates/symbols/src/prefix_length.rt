@@ -5,14 +5,6 @@ ghost use Rattle.theory.specs.Factorial as factorials;
 ghost use Rattle.theory.specs.Prefix as meaning;
 ghost use Rattle.ranking.specs.Factorials.{factorialTable};
 
-// n!/(n-p)!, how many prefixes of length p there are. It fits 64 bits as n! does. For other crates too: it asks for the table, at most twenty cells, and p at most n.
-pub fn falling(table: &[u64; 21], n: usize, p: usize) -> u64
-    requires { ⌜ (now table ≡ factorialTable) × (n ≤ 20) × (p ≤ n) ⌝ }
-    ensures { λ r. ⌜ r ≡ factorials.falling n p ⌝ }
-{
-    table[n] / table[n - p]
-}
-
 // The smallest p with n!/(n-p)! at least m, which is to say (n-p)! at most n!/m: one division serves the whole search.
 pub fn prefix_length(table: &[u64; 21], n: usize, m: u64) -> usize
     requires { ⌜ (now table ≡ factorialTable) × (n ≤ 20) × (1 ≤ m) × (m ≤ factorials.factorial n) ⌝ }

@@ -8,13 +8,13 @@ ghost use Rattle.theory.specs.Lists.{names, without};
 ghost use Rattle.theory.specs.Prefix as meaning;
 ghost use Rattle.symbols.specs.AnyPrefix.{rowAnswer};
 use super::answers::Prefixed;
-use super::prefix_length::falling;
 use super::prefix_length::prefix_length;
 use permutation::insert::put_in;
 use permutation::reasons::SIZE;
 use permutation::reasons::VALUE;
 use permutation::reasons::size_within;
 use ranking::factorials::factorial_table;
+use ranking::factorials::falling;
 
 // The names 1 to n go to the first n places.
 fn name_cells(cells: &mut [u8; 20], n: usize)

@@ -41,6 +41,14 @@ falling-factorial (suc n) (suc p) l =
 pub falling-quotient : (n p : ℕ) → p ≤ n → falling n p ≡ factorial n / factorial (n - p)
 falling-quotient n p l = sym (div-eq-of-eq-mul-left (factorial-pos (n - p)) (sym (falling-factorial n p l)))
 
+-- one factor more at the end
+pub falling-last : (n k : ℕ) → falling n (suc k) ≡ falling n k * (n - k)
+falling-last n zero = omega arith
+falling-last n (suc k) =
+    ap (λ (m : ℕ). n * m) (falling-last (n - 1) k)
+    ∙ sym (mul-assoc n (falling (n - 1) k) (n - 1 - k))
+    ∙ ap (λ (m : ℕ). n * falling (n - 1) k * m) (omega arith)
+
 pub factorials : Factorials
 factorials = record {
   twenty = refl;

@@ -1,5 +1,5 @@
 -- The place of a cell: where it lies, that the cell stands there, and that it is the only place of a cell that stands once. Assumes nothing.
-use mathlib.Core.Path.{_≡_, refl}
+use mathlib.Core.Path.{_≡_, refl, sym}
 use mathlib.Core.Bool.{true, false, false≢true}
 use mathlib.Core.List.{List, [], _∷_}
 use Prim.Native.Nat.{ℕ, zero, suc, _-_, _≤_, _<_}
@@ -7,7 +7,7 @@ use native.Mathlib.Nat.{le-of-suc-le-suc}
 use native.Mathlib.Omega.{arith}
 use lib.Dec.{eqb}
 use lib.ListN.{length, getD}
-use borrow.Author.Tests.{eq-eqb}
+use borrow.Author.Tests.{eq-eqb, ne-eqb}
 use Rattle.theory.specs.Lists.{member}
 use Rattle.theory.specs.Permutation.{cellAt, top, placeOf}
 use Rattle.theory.proofs.Cases.{by-test, by-name, eqb-sym}
@@ -25,6 +25,15 @@ placeOf-high c (x ∷ xs) m =
     by-test (eqb x c)
     (λ e. rw e (omega arith))
     (λ e. rw e (omega (arith, placeOf-high c xs (cc (eqb-sym x c)))))
+
+-- a cell whose place is one of the list's stands there
+pub placeOf-member : (c : ℕ) (xs : List ℕ) → placeOf c xs ≤ length xs → member c xs ≡ true
+unfolding placeOf
+placeOf-member c [] h = absurd (omega arith)
+placeOf-member c (x ∷ xs) h =
+    by-name c x
+    (λ q e. cc)
+    (λ q e. rw e (placeOf-member c xs (omega (arith, rw (ne-eqb x c (λ r. q (sym r))) at h))))
 
 pub cellAt-placeOf : (c : ℕ) (xs : List ℕ) → member c xs ≡ true → cellAt (placeOf c xs) xs ≡ c
 unfolding placeOf

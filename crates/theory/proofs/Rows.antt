@@ -8,10 +8,11 @@ use lib.Dec.{eqb}
 use lib.ListN.{length, length-append}
 use borrow.Author.Tests.{eq-eqb}
 use Rattle.theory.specs.Lists.{member, without}
-use Rattle.theory.specs.Permutation.{cellAt, top, placeOf}
+use Rattle.theory.specs.Permutation.{IsPermutation, cellAt, top, placeOf}
 use Rattle.theory.specs.Push.{push, pushes, Places, pushCell, pushCells, cellPlaces}
 use Rattle.theory.proofs.Cases.{by-test, by-name, eqb-sym}
-use Rattle.theory.proofs.Members.{Distinct, Same, Among, distinct-head, distinct-tail, distinct-cons, distinct-without, member-first, member-length, member-append, member-getD, member-without, among-tail, without-none, without-absent, without-same, without-append, without-without, without-length, without-one-length, without-at}
+use Rattle.theory.proofs.Members.{Distinct, Same, Among, permutation-distinct, distinct-head, distinct-tail, distinct-cons, distinct-without, member-first, member-length, member-append, member-getD, member-without, among-tail, without-none, without-absent, without-same, without-append, without-without, without-length, without-one-length, without-at}
+use Rattle.theory.proofs.Names.{permutation-member, names-permutation}
 use Rattle.theory.proofs.Places.{placeOf-low, placeOf-high, placeOf-lower, cellAt-placeOf}
 
 -- cell c on top of the others
@@ -40,6 +41,16 @@ pushCell-bring : (c : ℕ) (xs : List ℕ) → Distinct xs → member c xs ≡ t
 unfolding pushCell
 pushCell-bring c xs d m =
     push-bring (placeOf c xs) xs d (placeOf-low c xs) (placeOf-high c xs m) ∙ ap (λ (b : ℕ). bring b xs) (cellAt-placeOf c xs m)
+
+-- a row of pushes of cells is the row of pushes at their places
+pub cellPlaces-length : (cs xs : List ℕ) → length (cellPlaces cs xs) ≡ length cs
+cellPlaces-length [] xs = refl
+cellPlaces-length (c ∷ cs) xs = ap suc (cellPlaces-length cs (pushCell c xs))
+
+pub pushes-cells : (cs xs : List ℕ) → pushes (cellPlaces cs xs) xs ≡ pushCells cs xs
+unfolding pushCell
+pushes-cells [] xs = refl
+pushes-cells (c ∷ cs) xs = pushes-cells cs (pushCell c xs)
 
 -- a row of pushes and one more
 pushCells-snoc : (cs : List ℕ) (c : ℕ) (xs : List ℕ) → pushCells (cs ++ c ∷ []) xs ≡ pushCell c (pushCells cs xs)
@@ -157,6 +168,12 @@ pushes-rearranged (i ∷ is) xs d p =
     let k : Rearranged xs (push i xs) = push-rearranged i xs d (p .0) (p .1) in
     let r : Rearranged (push i xs) (pushes is (push i xs)) = pushes-rearranged is (push i xs) (k .distinct) (rw (k .long) (p .2)) in
     record { distinct = r .distinct; same = λ c. k .same c ∙ r .same c; long = r .long ∙ k .long }
+
+-- so what they lead to from a permutation is one
+pub pushes-permutation : {n : ℕ} {xs : List ℕ} → IsPermutation n xs → (is : List ℕ) → Places n is → IsPermutation n (pushes is xs)
+pushes-permutation {xs = xs} o is p =
+    let k : Rearranged xs (pushes is xs) = pushes-rearranged is xs (permutation-distinct o) (rw (o .long) p) in
+    names-permutation (k .long ∙ o .long) (k .distinct) (λ c. sym (k .same c) ∙ permutation-member o c)
 
 pub pushes-bringAll : (is xs : List ℕ) → Distinct xs → Places (length xs) is → pushes is xs ≡ bringAll (movedCells is xs) xs
 pushes-bringAll [] xs d p = refl

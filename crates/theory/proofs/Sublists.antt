@@ -1,11 +1,14 @@
 -- The test of a relative sequence decides sublists; what is left of a list is a sublist of it. Assumes nothing.
-use mathlib.Core.Path.{_≡_, refl}
+use mathlib.Core.Path.{_≡_, refl, sym, _∙_}
 use mathlib.Core.Bool.{true, false, not, false≢true}
 use mathlib.Core.Logic.{⊎-elim}
 use mathlib.Core.List.{List, [], _∷_, cons≢nil, Sublistᴰ, Sublistᴰ·nil-sublist, Sublistᴰ·refl, Sublistᴰ·trans, Sublistᴰ·eq-nil, Sublistᴰ·cases-cons-cons}
 use mathlib.Core.List.Sublistᴰ.{Sublistᴰ·slnil, Sublistᴰ·cons, Sublistᴰ·cons-cons}
-use Prim.Native.Nat.{ℕ}
+use Prim.Native.Nat.{ℕ, _≤_}
+use native.Mathlib.Omega.{arith}
 use lib.Dec.{eqb}
+use lib.ListN.{length}
+use borrow.Author.Tests.{ne-eqb}
 use Rattle.theory.specs.Lists.{member, without}
 use Rattle.theory.specs.Rewrite.{inSequence}
 use Rattle.theory.proofs.Cases.{by-test, by-name}
@@ -43,6 +46,24 @@ without-sublist a (x ∷ xs) =
     by-test (member x a)
     (λ e. rw e (Sublistᴰ·cons (without-sublist a xs)))
     (λ e. rw e (Sublistᴰ·cons-cons refl (without-sublist a xs)))
+
+-- cells in sequence, without a cell that is none of them
+pub sublist-without : (c : ℕ) {s xs : List ℕ} → Sublistᴰ s xs → member c s ≡ false → Sublistᴰ s (without (c ∷ []) xs)
+sublist-without c Sublistᴰ·slnil out = Sublistᴰ·slnil
+sublist-without c (Sublistᴰ·cons {a = y} k) out =
+    by-test (member y (c ∷ []))
+    (λ e. rw e (sublist-without c k out))
+    (λ e. rw e (Sublistᴰ·cons (sublist-without c k out)))
+sublist-without c (Sublistᴰ·cons-cons {a = x} {b = y} {l₁ = s} q k) out =
+    by-name c x
+    (λ r e. absurd (false≢true (sym out ∙ rw e)))
+    (λ r e. rw (ne-eqb y c (λ w. r (sym w ∙ sym q))) (Sublistᴰ·cons-cons q (sublist-without c k (rw e at out))))
+
+-- no more cells than the list has
+pub sublist-long : {s xs : List ℕ} → Sublistᴰ s xs → length s ≤ length xs
+sublist-long Sublistᴰ·slnil = omega arith
+sublist-long (Sublistᴰ·cons k) = omega (arith, sublist-long k)
+sublist-long (Sublistᴰ·cons-cons q k) = omega (arith, sublist-long k)
 
 pub sublist-one : (c : ℕ) (xs : List ℕ) → member c xs ≡ true → Sublistᴰ (c ∷ []) xs
 sublist-one c [] m = absurd (false≢true m)

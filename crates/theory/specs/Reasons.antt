@@ -11,7 +11,8 @@ done = 0
 abbrev pub size : ℕ
 size = 1
 
--- "target's n differs from the group's, or a push list has fewer than n - 1 bytes"; document 02, request 4: "lists of different length are fit"
+-- "target's n differs from the group's, or a push list has fewer than n - 1 bytes"; document 02, request 4: "lists of different length are fit";
+-- request 6: "a lent list shorter than the listing is fit"
 abbrev pub fit : ℕ
 fit = 2
 
@@ -23,7 +24,8 @@ muddle = 3
 abbrev pub tie : ℕ
 tie = 4
 
--- "rank at or above n!; push place outside 2 to n; m outside 1 to n!; symbol at or above m"; document 02, request 4: "a lowest above its highest is value"
+-- "rank at or above n!; push place outside 2 to n; m outside 1 to n!; symbol at or above m"; document 02, request 4: "a lowest above its highest is value";
+-- request 6: "A value of r above n - 1, or a list that would exceed 65,536 bytes, is value"
 abbrev pub value : ℕ
 value = 5
 

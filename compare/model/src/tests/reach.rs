@@ -43,7 +43,7 @@ fn two_three_and_four_cells() {
     check(&four);
 }
 
-/// "Every order whose least number of pushes from the present one [..] is at most r, each exactly once. Fewest pushes come first, then lexicographic sequence."
+/// "Every order whose least number of pushes from the present one [..] is at most r, each exactly once"; "fewest pushes come first, then lexicographic sequence."
 /// These are n!/(n-r)!: none but the present one without a push, and all n! with n - 1.
 #[test]
 fn every_start_to_five_cells() {

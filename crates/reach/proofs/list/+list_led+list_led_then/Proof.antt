@@ -11,8 +11,8 @@ use lib.ListN.{length}
 use lib.Seq.{sets, length-sets}
 use Rattle.theory.proofs.Cases.{by-le}
 use Rattle.permutation.specs.Insert.{putIn}
-use Rattle.reach.specs.Listing.{led, ledThen, LedRow}
-use Rattle.reach.proofs.Listing.{Listing, list-start, list-room, list-more, list-end}
+use Rattle.reach.specs.Led.{led, ledThen, LedRow}
+use Rattle.reach.proofs.Pieces.{NumbersLeft, numbers-start, number-room, number-put, numbers-end}
 use Rattle.reach.proofs.Led.{led-none, led-more, then-kept, then-top, then-next, next-led}
 use Rattle.reach.proofs.list.list_led.Reads as list-led
 use Rattle.reach.proofs.list.list_led.Kinds as list-led-kinds
@@ -22,7 +22,7 @@ use Rattle.reach.proofs.list.list_led_then.Kinds as list-led-then-kinds
 use Rattle.reach.proofs.list.+list_led+list_led_then.Lts-list_led_then as list-led-then-lts
 use Rattle.permutation.proofs.insert.put_in.Reads as put-in-reads
 use Rattle.reach.proofs.list.index_from.Reads as index-from-reads
-use Rattle.reach.proofs.list.put_names.Reads as put-names-reads
+use Rattle.reach.proofs.list.list_names.Reads as list-names-reads
 use Rattle.reach.proofs.list.+list_led+list_led_then.{statement}
 use Rattle.reach.proofs.list.+list_led+list_led_then.Tie.{close}
 
@@ -47,7 +47,7 @@ list-led-then-below t = and 2 list-led-then-kinds.ps (falls 2 list-led-then-kind
 
 -- what each may assume of its calls
 abbrev led-claims : ℕ → list-led-lts.Claims
-led-claims t = (put-names-reads.Asked, put-names-reads.Learnt, list-led-then-below t, list-led-then.Post)
+led-claims t = (list-names-reads.Asked, list-names-reads.Learnt, list-led-then-below t, list-led-then.Post)
 
 abbrev then-claims : ℕ → list-led-then-lts.Claims
 then-claims t =
@@ -56,13 +56,13 @@ then-claims t =
 -- ---- each name in turn
 
 abbrev Inv-loop : list-led-lts.InvT-loop
-Inv-loop list₀ from row n p d at₀ m₀ list at m = (m ≤ n) × Listing (ledThen n row p d) list₀ from (led n row p d) (n + 1) list at (m + 1)
+Inv-loop list₀ from row n p d at₀ m₀ list at m = (m ≤ n) × NumbersLeft (ledThen n row p d) list₀ from (led n row p d) (n + 1) list at (m + 1)
 
 abbrev μ-loop : list-led-lts.MeasureT-loop
 μ-loop list₀ from row n p d at₀ m₀ list at m = n - m
 
-list-led-put-names-requires : (t : ℕ) → list-led-lts.Need-put-names-requires (led-claims t) (list-led-at t) list-led.Post Inv-loop μ-loop
-list-led-put-names-requires t c κs =
+list-led-list-names-requires : (t : ℕ) → list-led-lts.Need-list-names-requires (led-claims t) (list-led-at t) list-led.Post Inv-loop μ-loop
+list-led-list-names-requires t c κs =
     let start = c .before .before .before in
     let v = start .pre .1 .0 in
     (v .few, v .long, omega (arith, start .pre .1 .1, ap length (led-none v (c .before .if1 .taken)), v .permutation .long))
@@ -74,20 +74,20 @@ list-led-add-result t c =
     omega (arith, start .pre .1 .1, ap length (led-none v (c .before .before .before .before .if1 .taken)), v .permutation .long)
 
 list-led-same-length : (t : ℕ) → list-led-lts.Need-same-length (led-claims t) (list-led-at t) list-led.Post Inv-loop μ-loop
-list-led-same-length t c = ap length (c .before .before .put-names .ensures) ∙ simp length-sets
+list-led-same-length t c = ap length (c .before .before .list-names .ensures) ∙ simp length-sets
 
 list-led-returns : (t : ℕ) → list-led-lts.Need-returns (led-claims t) (list-led-at t) list-led.Post Inv-loop μ-loop
 list-led-returns t c =
     let v = c .before .before .before .before .before .before .pre .1 .0 in
     let none = led-none v (c .before .before .before .before .if1 .taken) in
-    (omega (arith, ap length none, v .permutation .long), c .before .before .put-names .ensures ∙ rw none)
+    (omega (arith, ap length none, v .permutation .long), c .before .before .list-names .ensures ∙ rw none)
 
 list-led-loop-holds : (t : ℕ) → list-led-lts.Need-loop-holds (led-claims t) (list-led-at t) list-led.Post Inv-loop μ-loop
 list-led-loop-holds t c =
     let start = c .before .before in
     let v = start .pre .1 .0 in
     let all : start .args .n + 1 - 1 ≡ start .args .n = omega arith in
-    (omega arith, list-start _ (start .args .n + 1) 1 (rw all (led-more v (omega (arith, c .if1 .left)))) (start .pre .1 .1))
+    (omega arith, numbers-start _ (start .args .n + 1) 1 (rw all (led-more v (omega (arith, c .if1 .left)))) (start .pre .1 .1))
 
 list-led-add-list-led-then : (t : ℕ) → list-led-lts.Need-add-list-led-then (led-claims t) (list-led-at t) list-led.Post Inv-loop μ-loop
 list-led-add-list-led-then t c = search needs
@@ -101,7 +101,7 @@ list-led-list-led-then-requires t c κs =
     let turn = c .before .before .loop in
     let more = c .before .loop-test .taken in
     let some = c .before .before .before .if1 .left in
-    (omega (arith, start .pre .0), (start .pre .1 .0, omega (arith, some), omega arith, omega (arith, more), list-room _ _ (turn .m + 1) (turn .inv .1) (omega (arith, more))))
+    (omega (arith, start .pre .0), (start .pre .1 .0, omega (arith, some), omega arith, omega (arith, more), number-room _ _ (turn .m + 1) (turn .inv .1) (omega (arith, more))))
 
 list-led-add-m : (t : ℕ) → list-led-lts.Need-add-m (led-claims t) (list-led-at t) list-led.Post Inv-loop μ-loop
 list-led-add-m t c = search needs
@@ -114,7 +114,7 @@ list-led-loop-again t c =
     let turn = c .before .before .before .before .before .loop in
     let more = c .before .before .before .before .loop-test .taken in
     let listed = c .before .before .list-led-then .ensures in
-    (omega (arith, more), list-more _ _ (turn .m + 1) (turn .inv .1) (omega (arith, more)) (listed .0) (listed .1))
+    (omega (arith, more), number-put _ _ (turn .m + 1) (turn .inv .1) (omega (arith, more)) (listed .0) (listed .1))
 
 list-led-same-length-2 : (t : ℕ) → list-led-lts.Need-same-length-2 (led-claims t) (list-led-at t) list-led.Post Inv-loop μ-loop
 list-led-same-length-2 t c = c .before .loop .inv .1 .size
@@ -122,7 +122,7 @@ list-led-same-length-2 t c = c .before .loop .inv .1 .size
 list-led-returns-2 : (t : ℕ) → list-led-lts.Need-returns-2 (led-claims t) (list-led-at t) list-led.Post Inv-loop μ-loop
 list-led-returns-2 t c =
     let turn = c .before .loop in
-    list-end _ _ (turn .m + 1) (turn .inv .1) (omega (arith, turn .inv .0, c .loop-test .left))
+    numbers-end _ _ (turn .m + 1) (turn .inv .1) (omega (arith, turn .inv .0, c .loop-test .left))
 
 -- ---- behind one cell more
 
@@ -156,7 +156,7 @@ known t c =
     (then-next (pre .0) _ index short (c .if2 .left), next-led (pre .0) _ index short)
 
 list-led-then-index-from-requires : (t : ℕ) → list-led-then-lts.Need-index-from-requires (then-claims t) (list-led-then-at t) list-led-then.Post
-list-led-then-index-from-requires t c κs = let v = c .before .pre .1 .0 in (v .within, v .few, v .long)
+list-led-then-index-from-requires t c κs = let v = c .before .pre .1 .0 in (v .first, v .few, v .long)
 
 list-led-then-returns : (t : ℕ) → list-led-then-lts.Need-returns (then-claims t) (list-led-then-at t) list-led-then.Post
 list-led-then-returns t c =
@@ -166,10 +166,10 @@ list-led-then-returns t c =
 list-led-then-add-if2 : (t : ℕ) → list-led-then-lts.Need-add-if2 (then-claims t) (list-led-then-at t) list-led-then.Post
 list-led-then-add-if2 t c =
     let v = c .before .before .before .pre .1 .0 in
-    omega (arith, v .few, v .near, c .before .index-from .ensures .2)
+    omega (arith, v .few, v .most, c .before .index-from .ensures .2)
 
 list-led-then-add-if2-2 : (t : ℕ) → list-led-then-lts.Need-add-if2-2 (then-claims t) (list-led-then-at t) list-led-then.Post
-list-led-then-add-if2-2 t c = let v = c .before .before .before .pre .1 .0 in omega (arith, v .few, v .within)
+list-led-then-add-if2-2 t c = let v = c .before .before .before .pre .1 .0 in omega (arith, v .few, v .first)
 
 list-led-then-returns-2 : (t : ℕ) → list-led-then-lts.Need-returns-2 (then-claims t) (list-led-then-at t) list-led-then.Post
 list-led-then-returns-2 t c =
@@ -182,7 +182,7 @@ list-led-then-put-in-requires t c κs =
     (omega (arith, v .few, below t (c .before .before .before)), c .before .before .before .before .index-from .ensures .1, v .long)
 
 list-led-then-add-list-led : (t : ℕ) → list-led-then-lts.Need-add-list-led (then-claims t) (list-led-then-at t) list-led-then.Post
-list-led-then-add-list-led t c = let v = c .before .before .before .before .before .before .before .before .before .pre .1 .0 in omega (arith, v .few, v .within)
+list-led-then-add-list-led t c = let v = c .before .before .before .before .before .before .before .before .before .pre .1 .0 in omega (arith, v .few, v .first)
 
 list-led-then-sub-list-led : (t : ℕ) → list-led-then-lts.Need-sub-list-led (then-claims t) (list-led-then-at t) list-led-then.Post
 list-led-then-sub-list-led t c = c .before .before .before .before .before .before .before .before .before .pre .1 .1
@@ -210,7 +210,7 @@ pub +list-led+list-led-then-spec : {M : Type 1} → statement M
     list-led.Post
     Inv-loop
     μ-loop
-    (list-led-put-names-requires t)
+    (list-led-list-names-requires t)
     (list-led-add-result t)
     (list-led-same-length t)
     (list-led-returns t)

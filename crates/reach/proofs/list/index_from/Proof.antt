@@ -3,7 +3,7 @@ use mathlib.Core.Path.{_≡_, sym, _∙_}
 use Prim.Native.Nat.{_-_, _≤_}
 use native.Mathlib.Omega.{arith}
 use borrow.Author.Needs.{needs}
-use Rattle.reach.proofs.Listing.{placeFrom, place-here, place-next, place-none}
+use Rattle.reach.proofs.RowLoops.{placeFrom, place-here, place-next, place-none}
 use Rattle.reach.proofs.list.index_from.Statement.{statement}
 use Rattle.reach.proofs.list.index_from.Tie as tie
 

@@ -5,29 +5,29 @@ use native.Mathlib.Omega.{arith}
 use borrow.Author.Needs.{needs}
 use lib.ListN.{take}
 use Rattle.reach.specs.Reach.{withinReach}
-use Rattle.reach.specs.Listing.{led}
-use Rattle.reach.proofs.Listing.{Listing, list-start, list-room, list-more, list-end, within-led}
+use Rattle.reach.specs.Led.{led}
+use Rattle.reach.proofs.Led.{within-led}
+use Rattle.reach.proofs.Pieces.{NumbersLeft, numbers-start, number-room, number-put, numbers-end}
 use Rattle.reach.proofs.list.list_within.Statement.{statement}
 use Rattle.reach.proofs.list.list_within.Tie as tie
 
 abbrev Inv-loop : tie.InvT-loop
-Inv-loop list₀ cells n r at₀ d₀ list at d = (d ≤ r + 1) × Listing (led n cells 0) list₀ 0 (flatten (withinReach n (take n cells) r)) (r + 1) list at d
+Inv-loop list₀ cells n r at₀ d₀ list at d = (d ≤ r + 1) × NumbersLeft (led n cells 0) list₀ 0 (flatten (withinReach n (take n cells) r)) (r + 1) list at d
 
 abbrev μ-loop : tie.MeasureT-loop
 μ-loop list₀ cells n r at₀ d₀ list at d = r + 1 - d
 
 loop-holds : tie.Need-loop-holds Inv-loop μ-loop
 loop-holds c =
-    let v = c .before .pre in
-    (omega arith, list-start _ (c .before .args .r + 1) 0 (within-led _ _ _) (v .room))
+    (omega arith, numbers-start _ (c .before .args .r + 1) 0 (within-led _ _ _) (c .before .pre .1))
 
 list-led-requires : tie.Need-list-led-requires Inv-loop μ-loop
 list-led-requires c κs =
-    let v = c .before .before .before .before .pre in
+    let v = c .before .before .before .before .pre .0 in
     let l = c .before .before .loop in
     let more = c .before .loop-test .taken in (
-      record { few = v .few; long = v .long; within = omega arith; near = omega (arith, more, v .near); permutation = v .permutation },
-      list-room _ _ (l .d) (l .inv .1) (omega (arith, more)),
+      record { few = v .few; long = v .long; first = omega arith; most = omega (arith, more, v .most); permutation = v .permutation },
+      number-room _ _ (l .d) (l .inv .1) (omega (arith, more)),
     )
 
 add-d : tie.Need-add-d Inv-loop μ-loop
@@ -41,13 +41,13 @@ loop-again c =
     let l = c .before .before .before .before .before .loop in
     let more = c .before .before .before .before .loop-test .taken in
     let listed = c .before .before .list-led .ensures in
-    (omega (arith, more), list-more _ _ (l .d) (l .inv .1) (omega (arith, more)) (listed .0) (listed .1))
+    (omega (arith, more), number-put _ _ (l .d) (l .inv .1) (omega (arith, more)) (listed .0) (listed .1))
 
 same-length : tie.Need-same-length Inv-loop μ-loop
 same-length c = c .before .loop .inv .1 .size
 
 returns : tie.Need-returns Inv-loop μ-loop
-returns c = let l = c .before .loop in list-end _ _ (l .d) (l .inv .1) (omega (arith, c .loop-test .left)) .1
+returns c = let l = c .before .loop in numbers-end _ _ (l .d) (l .inv .1) (omega (arith, c .loop-test .left)) .1
 
 pub list-within-spec : {M : Type 1} → statement M
 list-within-spec =

@@ -8,7 +8,7 @@ use lib.Seq.{length-sets}
 use Rattle.theory.specs.Levels.{permutationOf}
 use Rattle.theory.proofs.Refusal.{Readable, readable}
 use Rattle.charge.proofs.Sorting.{sorted-row, row-long, row-first}
-use Rattle.reach.proofs.Judging.{job-refused, job-fault, job-far, job-large, job-short, Taken, job-taken, job-reachable, job-done}
+use Rattle.reach.proofs.Judging.{job-refused, job-fault, job-far, job-large, job-small, job-short, Taken, job-taken, job-led, job-done}
 use Rattle.reach.proofs.within_reach.within_reach.Statement.{statement}
 use Rattle.reach.proofs.within_reach.within_reach.Tie as tie
 
@@ -49,7 +49,9 @@ taken : (c : tie.After-sort-cells)
     Taken (a .levels .now) (a .r) (length (a .list .now)) (counted c .falling .result)
 taken c =
     let k = counted c in
-    job-taken _ _ _ (read (past k)) (near k) (k .falling .ensures) (c .before .before .before .if3 .left) (c .before .before .if4 .left)
+    let small = c .before .before .before .if3 .left in
+    let fits = c .before .before .if4 .left in
+    job-taken _ _ _ (read (past k)) (near k) (k .falling .ensures) (omega (arith, small)) (omega (arith, fits))
 
 returns : tie.Need-returns
 returns c =
@@ -66,13 +68,20 @@ falling-requires c κs = (c .before .factorial-table .ensures, read (c .before .
 returns-3 : tie.Need-returns-3
 returns-3 c =
     let k = c .before .before in
-    job-refused _ _ _ (c .none-reached3 .ensures) (job-large _ _ _ (read (past k)) (near k) (k .falling .ensures) (c .before .if3 .taken)) (λ z. omega arith)
+    job-refused _ _ _ (c .none-reached3 .ensures)
+    (job-large _ _ _ (read (past k)) (near k) (k .falling .ensures) (omega (arith, c .before .if3 .taken))) (λ z. omega arith)
+
+mul-if4 : tie.Need-mul-if4
+mul-if4 c =
+    let k = c .before in
+    omega (arith, job-small _ _ 0 (read (past k)) (near k) (k .falling .ensures) (omega (arith, c .if3 .left)))
 
 returns-4 : tie.Need-returns-4
 returns-4 c =
     let k = c .before .before .before in
     job-refused _ _ _ (c .none-reached4 .ensures)
-    (job-short _ _ _ (read (past k)) (near k) (k .falling .ensures) (c .before .before .if3 .left) (c .before .if4 .taken)) (λ z. omega arith)
+    (job-short _ _ _ (read (past k)) (near k) (k .falling .ensures) (omega (arith, c .before .before .if3 .left)) (omega (arith, c .before .if4 .taken)))
+    (λ z. omega arith)
 
 sort-cells-requires : tie.Need-sort-cells-requires
 sort-cells-requires c κs = (read (past (c .before .before .before)) .many, refl)
@@ -80,7 +89,7 @@ sort-cells-requires c κs = (read (past (c .before .before .before)) .many, refl
 list-within-requires : tie.Need-list-within-requires
 list-within-requires c κs =
     let k = c .before .before in
-    job-reachable _ _ _ (taken k) _ (long k) (sorted k)
+    job-led _ _ (entry (past (counted k)) .args .list .now) (taken k) _ (long k) (sorted k)
 
 same-length : tie.Need-same-length
 same-length c = ap length (c .before .before .list-within .ensures) ∙ simp length-sets
@@ -104,7 +113,7 @@ within-reach-spec =
     (λ c. search needs)
     (λ c κs. tt)
     returns-3
-    (λ c. search needs)
+    mul-if4
     (λ c κs. tt)
     returns-4
     sort-cells-requires

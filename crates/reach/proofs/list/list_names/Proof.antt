@@ -1,10 +1,10 @@
--- `reach::list::put_names` meets its contract: what is put, and then what is left, is the whole. Assumes nothing.
+-- `reach::list::list_names` meets its contract: what is put, and then what is left, is the whole. Assumes nothing.
 use Prim.Native.Nat.{_-_, _≤_}
 use native.Mathlib.Omega.{arith}
 use borrow.Author.Needs.{needs}
-use Rattle.reach.proofs.Listing.{Naming, name-start, name-more, name-end}
-use Rattle.reach.proofs.list.put_names.Statement.{statement}
-use Rattle.reach.proofs.list.put_names.Tie as tie
+use Rattle.reach.proofs.RowLoops.{Naming, name-start, name-more, name-end}
+use Rattle.reach.proofs.list.list_names.Statement.{statement}
+use Rattle.reach.proofs.list.list_names.Tie as tie
 
 abbrev Inv-loop : tie.InvT-loop
 Inv-loop list₀ at row n i₀ list i = (i ≤ n) × Naming list₀ at row n list i
@@ -46,8 +46,8 @@ returns c =
     let l = c .before .loop in
     name-end (a .list .now) (a .at) (a .row .now) (a .n) (omega arith) (l .i) (l .inv .1) (omega (arith, l .inv .0, c .loop-test .left))
 
-pub put-names-spec : {M : Type 1} → statement M
-put-names-spec =
+pub list-names-spec : {M : Type 1} → statement M
+list-names-spec =
     tie.close
     (tie.spec
     Inv-loop

@@ -1,12 +1,12 @@
--- `symbols::prefix_length::falling` meets its contract: the quotient of two factorials, the lower of which is not 0. Assumes nothing.
+-- `ranking::factorials::falling` meets its contract: the quotient of two factorials, the lower of which is not 0. Assumes nothing.
 use mathlib.Core.Path.{sym}
 use Prim.Native.Nat.{_-_}
 use native.Mathlib.Omega.{arith}
 use borrow.Author.Needs.{needs}
 use Rattle.theory.proofs.Factorials.{factorial-pos, falling-quotient}
 use Rattle.ranking.proofs.Table.{table-at}
-use Rattle.symbols.proofs.prefix_length.falling.Statement.{statement}
-use Rattle.symbols.proofs.prefix_length.falling.Tie as tie
+use Rattle.ranking.proofs.factorials.falling.Statement.{statement}
+use Rattle.ranking.proofs.factorials.falling.Tie as tie
 
 mul-result : tie.Need-mul-result
 mul-result c = search needs
