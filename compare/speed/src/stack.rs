@@ -63,7 +63,7 @@ fn enough(index: usize, kib: usize) -> bool {
 }
 
 pub fn print() {
-    println!("| job, n = 20 | least stack, KiB |\n| --- | --: |");
+    println!("| job, of 20 cells but where it says otherwise | least stack, KiB |\n| --- | --: |");
     for (index, (name, _)) in JOBS.iter().enumerate() {
         let least = (1..).map(|steps| steps * STEP).find(|&kib| enough(index, kib)).expect("some stack is enough");
         println!("| {name} | {least} |");

@@ -1,4 +1,4 @@
-// The factorials of 0 to 20, as a table: all fit 64 bits.
+// The factorials of 0 to 20, as a table: all fit 64 bits; and their quotients n!/(n-p)!.
 ghost use mathlib.Core.Path.{_≡_};
 ghost use Prim.Native.Nat.{_≤_};
 ghost use Rattle.theory.specs.Factorial as meaning;

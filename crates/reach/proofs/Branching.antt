@@ -21,7 +21,7 @@ use Rattle.theory.proofs.Numbering.{Over, prefixes-length, prefixes-at, prefixO
 use Rattle.reach.specs.Reach.{keep, atDistance}
 use Rattle.reach.specs.Led.{startingWith}
 use Rattle.reach.proofs.Entries.{In, At, in-at, keep-none, keep-same, keep-under, keep-flatMap, flatMap-same, flatMap-none}
-use Rattle.reach.proofs.Nearing.{stands-test, away-test}
+use Rattle.reach.proofs.Nearing.{none-test, more-test}
 
 -- cells xs, and their names
 pub record Named (free xs : List ℕ) : Type 0 where
@@ -42,8 +42,8 @@ named-less {free} {xs} v c m =
     }
 
 -- a prefix of length p over the names of `free` has that length, and names of `free` only
-pub prefix-in : (p : ℕ) (free : List ℕ) → Distinct free → (t : List ℕ) → In t (prefixes p free) → (length t ≡ p) × Over free t
-prefix-in p free d t m =
+pub in-prefixes : (p : ℕ) (free : List ℕ) → Distinct free → (t : List ℕ) → In t (prefixes p free) → (length t ≡ p) × Over free t
+in-prefixes p free d t m =
     let f : At t (prefixes p free) = in-at (prefixes p free) m in
     let below : f .index < falling (length free) p = omega (arith, f .within, prefixes-length p free d) in
     let is = sym (f .here) ∙ prefixes-at p free (f .index) d below in
@@ -74,7 +74,7 @@ module _ {x : ℕ} {xs free : List ℕ} (v : Named free (x ∷ xs)) (c : ℕ) (m
 
   module _ (t : List ℕ) (i : In t (prefixes (length xs) (without (c ∷ []) free))) where
     is-prefix : (length t ≡ length xs) × Over (without (c ∷ []) free) t
-    is-prefix = prefix-in (length xs) (without (c ∷ []) free) (others .names) t i
+    is-prefix = in-prefixes (length xs) (without (c ∷ []) free) (others .names) t i
 
     cell-out : member c t ≡ false
     cell-out =
@@ -82,12 +82,12 @@ module _ {x : ℕ} {xs free : List ℕ} (v : Named free (x ∷ xs)) (c : ℕ) (m
         (λ e. absurd (false≢true (sym (cc (member-without c (c ∷ []) free, eq-eqb c c refl)) ∙ is-prefix .1 .named c e)))
         (λ e. e)
 
-    standing-test : eqb (rewriteCount (x ∷ xs) (c ∷ t)) 0 ≡ (eqb (rewriteCount (without (c ∷ []) (x ∷ xs)) t) 0 && eqb c x)
-    standing-test = stands-test c t (x ∷ xs) cell-in cell-out (ap suc (is-prefix .0))
+    named-none-test : eqb (rewriteCount (x ∷ xs) (c ∷ t)) 0 ≡ (eqb (rewriteCount (without (c ∷ []) (x ∷ xs)) t) 0 && eqb c x)
+    named-none-test = none-test c t (x ∷ xs) cell-in cell-out (ap suc (is-prefix .0))
 
-    pushed-test : (d : ℕ) → eqb (rewriteCount (x ∷ xs) (c ∷ t)) (suc d)
+    named-more-test : (d : ℕ) → eqb (rewriteCount (x ∷ xs) (c ∷ t)) (suc d)
         ≡ (not (eqb d 0 && eqb c x) && eqb (rewriteCount (without (c ∷ []) (x ∷ xs)) t) d)
-    pushed-test d = away-test c t (x ∷ xs) cell-in cell-out (ap suc (is-prefix .0)) d
+    named-more-test d = more-test c t (x ∷ xs) cell-in cell-out (ap suc (is-prefix .0)) d
 
 -- ---- 0 pushes away
 
@@ -105,14 +105,14 @@ flatMap-one a ts (b ∷ cs) d m =
 
 module _ {x : ℕ} {xs free : List ℕ} (v : Named free (x ∷ xs)) where
   -- what the cell on top has under it: the others as they stand
-  top-out : without (x ∷ []) (x ∷ xs) ≡ xs
-  top-out = cc (eq-eqb x x refl, without-absent x xs (distinct-head x xs (v .cells .distinct)))
+  without-top : without (x ∷ []) (x ∷ xs) ≡ xs
+  without-top = cc (eq-eqb x x refl, without-absent x xs (distinct-head x xs (v .cells .distinct)))
 
   top-in : member x free ≡ true
   top-in = v .cells .same x ∙ member-first x xs
 
   under-top : Named (without (x ∷ []) free) xs
-  under-top = rw top-out at (named-less v x top-in)
+  under-top = rw without-top at (named-less v x top-in)
 
   top-kept :
       atDistance (without (x ∷ []) free) xs 0 ≡ xs ∷ []
@@ -120,7 +120,7 @@ module _ {x : ℕ} {xs free : List ℕ} (v : Named free (x ∷ xs)) where
   unfolding atDistance
   top-kept ih =
       keep-same _ (λ t. eqb (rewriteCount xs t) 0) (prefixes (length xs) (without (x ∷ []) free))
-      (λ t i. standing-test v x top-in t i ∙ rw (top-out, eq-eqb x x refl) (and-true _))
+      (λ t i. named-none-test v x top-in t i ∙ rw (without-top, eq-eqb x x refl) (and-true _))
       ∙ rw (names-fewer v x top-in) at ih
 
   none-more : atDistance (without (x ∷ []) free) xs 0 ≡ xs ∷ [] → atDistance free (x ∷ xs) 0 ≡ (x ∷ xs) ∷ []
@@ -131,7 +131,7 @@ module _ {x : ℕ} {xs free : List ℕ} (v : Named free (x ∷ xs)) where
       ∙ flatMap-same _ (λ c. cond (eqb c x) ((x ∷ xs) ∷ []) []) free (λ c m.
       by-name c x
       (λ q e. rw (e, q) (ap (map (λ t. x ∷ t)) (top-kept ih)))
-      (λ q e. rw e (ap (map (λ t. c ∷ t)) (keep-none _ (prefixes (length xs) (without (c ∷ []) free)) (λ t i. standing-test v c m t i ∙ rw e (and-false (eqb (rewriteCount (without (c ∷ []) (x ∷ xs)) t) 0)))))))
+      (λ q e. rw e (ap (map (λ t. c ∷ t)) (keep-none _ (prefixes (length xs) (without (c ∷ []) free)) (λ t i. named-none-test v c m t i ∙ rw e (and-false (eqb (rewriteCount (without (c ∷ []) (x ∷ xs)) t) 0)))))))
       ∙ flatMap-one x ((x ∷ xs) ∷ []) free (v .names) top-in
       )
 
@@ -161,8 +161,8 @@ distance-more free (x ∷ xs) d v =
     let one : eqb (suc d) 1 ≡ eqb d 0 = one-more d in
     let pred : suc d - 1 ≡ d = omega arith in
     by-test (eqb d 0 && eqb c x)
-    (λ f. rw (one, f) (ap (map (λ t. c ∷ t)) (keep-none _ (prefixes (length xs) (without (c ∷ []) free)) (λ t i. pushed-test v c m t i d ∙ rw f))))
-    (λ f. rw (one, f, pred, names-fewer v c m) (ap (map (λ t. c ∷ t)) (keep-same _ _ (prefixes (length xs) (without (c ∷ []) free)) (λ t i. pushed-test v c m t i d ∙ rw f)))))
+    (λ f. rw (one, f) (ap (map (λ t. c ∷ t)) (keep-none _ (prefixes (length xs) (without (c ∷ []) free)) (λ t i. named-more-test v c m t i d ∙ rw f))))
+    (λ f. rw (one, f, pred, names-fewer v c m) (ap (map (λ t. c ∷ t)) (keep-same _ _ (prefixes (length xs) (without (c ∷ []) free)) (λ t i. named-more-test v c m t i d ∙ rw f)))))
     )
 
 -- ---- how many

@@ -1,10 +1,7 @@
 -- Lists one after another, each after the same cells. Assumes nothing.
 use mathlib.Core.Path.{_≡_, refl, ap, sym, _∙_}
-use mathlib.Core.Bool.{cond}
 use mathlib.Core.List.{List, [], _∷_, _++_, map, flatMap, flatten, append-assoc}
 use Prim.Native.Nat.{ℕ}
-use Rattle.theory.specs.Lists.{member, without}
-use Rattle.theory.proofs.Cases.{by-test}
 use Rattle.reach.specs.Led.{eachAfter}
 
 after-append : (q : List ℕ) (ts us : List (List ℕ)) → eachAfter q (ts ++ us) ≡ eachAfter q ts ++ eachAfter q us
@@ -32,10 +29,3 @@ unfolding flatMap flatten
 after-flatMap q f [] = refl
 after-flatMap q f (c ∷ cs) =
     after-append q (f c) (flatMap f cs) ∙ ap (λ (l : List ℕ). eachAfter q (f c) ++ l) (after-flatMap q f cs)
-
--- those for names that are not in q
-pub flatMap-without :
-    (q : List ℕ) (f : ℕ → List ℕ) (cs : List ℕ) → flatMap f (without q cs) ≡ flatMap (λ c. cond (member c q) [] (f c)) cs
-unfolding flatMap
-flatMap-without q f [] = refl
-flatMap-without q f (c ∷ cs) = by-test (member c q) (λ e. cc (flatMap-without q f cs)) (λ e. cc (flatMap-without q f cs))

@@ -1,6 +1,6 @@
 -- The entries of a list of lists: by their index, those that a test keeps, and those of lists put one after another. Assumes nothing.
 use mathlib.Core.Path.{_≡_, refl, ap, sym, _∙_}
-use mathlib.Core.Bool.{Bool, true, false, false≢true}
+use mathlib.Core.Bool.{Bool, true, false, false≢true, cond}
 use mathlib.Core.Logic.{⊎-elim}
 use mathlib.Core.List.{List, [], _∷_, _++_, map, flatMap, List·Memᴰ, List·Memᴰ·not-nil, List·Memᴰ·cases-cons}
 use mathlib.Core.List.{List·Memᴰ·append-cases, Memᴰ·append-left, Memᴰ·append-right}
@@ -9,7 +9,7 @@ use Prim.Native.Nat.{ℕ, zero, suc, _<_}
 use native.Mathlib.Nat.{le-of-suc-le-suc}
 use native.Mathlib.Omega.{arith}
 use lib.ListN.{length, getD}
-use Rattle.theory.specs.Lists.{member}
+use Rattle.theory.specs.Lists.{member, without}
 use Rattle.theory.proofs.Cases.{by-test, by-name}
 use Rattle.theory.proofs.Members.{member-first, member-later}
 use Rattle.reach.specs.Reach.{keep}
@@ -46,16 +46,16 @@ module _ (test : List ℕ → Bool) where
       (λ f. rw f (⊎-elim (λ e. List·Memᴰ·head e) (λ k. List·Memᴰ·tail (keep-in ts k h)) (List·Memᴰ·cases-cons m)))
       (λ f. rw f (⊎-elim (λ e. absurd (false≢true (sym f ∙ (rw e at h)))) (λ k. keep-in ts k h) (List·Memᴰ·cases-cons m)))
 
-  pub keep-out : {t : List ℕ} (ts : List (List ℕ)) → In t (keep test ts) → In t ts × (test t ≡ true)
-  keep-out [] m = absurd (List·Memᴰ·not-nil m)
-  keep-out {t} (u ∷ ts) m =
+  pub in-keep : {t : List ℕ} (ts : List (List ℕ)) → In t (keep test ts) → In t ts × (test t ≡ true)
+  in-keep [] m = absurd (List·Memᴰ·not-nil m)
+  in-keep {t} (u ∷ ts) m =
       by-test (test u)
       (λ f.
       ⊎-elim
       (λ e. (List·Memᴰ·head e, rw e f))
-      (λ k. let w = keep-out ts k in (List·Memᴰ·tail (w .0), w .1))
+      (λ k. let w = in-keep ts k in (List·Memᴰ·tail (w .0), w .1))
       (List·Memᴰ·cases-cons (rw f at m)))
-      (λ f. let w = keep-out ts (rw f at m) in (List·Memᴰ·tail (w .0), w .1))
+      (λ f. let w = in-keep ts (rw f at m) in (List·Memᴰ·tail (w .0), w .1))
 
   pub keep-none : (ts : List (List ℕ)) → ((t : List ℕ) → In t ts → test t ≡ false) → keep test ts ≡ []
   keep-none [] h = refl
@@ -94,6 +94,12 @@ module _ {A : Type 0} where
   flatMap-none f [] h = refl
   flatMap-none f (c ∷ cs) h = cc (h c (member-first c cs), flatMap-none f cs (λ b m. h b (member-later b c cs m)))
 
+  -- those for names that are not in q
+  pub flatMap-without : (q : List ℕ) (f : ℕ → List A) (cs : List ℕ) → flatMap f (without q cs) ≡ flatMap (λ c. cond (member c q) [] (f c)) cs
+  unfolding flatMap
+  flatMap-without q f [] = refl
+  flatMap-without q f (c ∷ cs) = by-test (member c q) (λ e. cc (flatMap-without q f cs)) (λ e. cc (flatMap-without q f cs))
+
 pub flatMap-in : {t : List ℕ} (f : ℕ → List (List ℕ)) (cs : List ℕ) (c : ℕ) → member c cs ≡ true → In t (f c) → In t (flatMap f cs)
 unfolding flatMap
 flatMap-in f [] c m k = absurd (false≢true m)
@@ -102,12 +108,12 @@ flatMap-in {t} f (b ∷ cs) c m k =
     (λ q e. Memᴰ·append-left (flatMap f cs) (rw q at k))
     (λ q e. Memᴰ·append-right (f b) (flatMap-in f cs c (rw e at m) k))
 
-pub flatMap-out :
+pub in-flatMap :
     {t : List ℕ} (f : ℕ → List (List ℕ)) (cs : List ℕ) → In t (flatMap f cs) → (c : ℕ) × (member c cs ≡ true) × In t (f c)
 unfolding flatMap
-flatMap-out f [] m = absurd (List·Memᴰ·not-nil m)
-flatMap-out f (b ∷ cs) m =
+in-flatMap f [] m = absurd (List·Memᴰ·not-nil m)
+in-flatMap f (b ∷ cs) m =
     ⊎-elim
     (λ k. (b, member-first b cs, k))
-    (λ k. let w = flatMap-out f cs k in (w .0, member-later (w .0) b cs (w .1), w .2))
+    (λ k. let w = in-flatMap f cs k in (w .0, member-later (w .0) b cs (w .1), w .2))
     (List·Memᴰ·append-cases (f b) m)

@@ -23,8 +23,8 @@ use Rattle.theory.proofs.Storing.{others-below}
 use Rattle.permutation.specs.Insert.{putIn}
 use Rattle.reach.specs.Reach.{atDistance, withinReach}
 use Rattle.reach.specs.Led.{startingWith, eachAfter, led, ledThen, LedRow}
-use Rattle.reach.proofs.EachAfter.{after-none, after-more, after-flatMap, flatMap-without}
-use Rattle.reach.proofs.Entries.{flatMap-same}
+use Rattle.reach.proofs.EachAfter.{after-none, after-more, after-flatMap}
+use Rattle.reach.proofs.Entries.{flatMap-same, flatMap-without}
 use Rattle.reach.proofs.Branching.{Named, distance-none, distance-more}
 
 module _ {row : List ℕ} {n p d : ℕ} (v : LedRow row n p d) where

@@ -1,4 +1,4 @@
--- Laws that the proofs of the functions use.
+-- Laws that the proofs of the functions use, and the proof of what is claimed.
 pub mod Entries
 pub mod Nearing
 pub mod Branching

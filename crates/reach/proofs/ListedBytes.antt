@@ -12,7 +12,7 @@ use Rattle.reach.specs.Reach.{withinReach}
 use Rattle.reach.specs.Claims.{Reaching, entryOf}
 use Rattle.reach.specs.Answers.{reachBytes}
 use Rattle.reach.proofs.Entries.{In}
-use Rattle.reach.proofs.Reaching.{within-out, within-many}
+use Rattle.reach.proofs.Reaching.{in-within, within-many}
 
 module _ (n : ℕ) where
   flatten-length : (ts : List (List ℕ)) → ((t : List ℕ) → In t ts → length t ≡ n) → length (flatten ts) ≡ length ts * n
@@ -36,7 +36,7 @@ module _ (n : ℕ) where
 
 module _ {n : ℕ} {xs : List ℕ} (o : IsPermutation n xs) (r : ℕ) where
   pub entries-long : (t : List ℕ) → In t (withinReach n xs r) → length t ≡ n
-  entries-long t m = within-out n xs r m .0 .long
+  entries-long t m = in-within n xs r m .0 .long
 
   pub within-bytes : r < n → length (flatten (withinReach n xs r)) ≡ reachBytes n r
   within-bytes l = flatten-length n (withinReach n xs r) entries-long ∙ ap (λ (k : ℕ). k * n) (within-many o r (omega arith))

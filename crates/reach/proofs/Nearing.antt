@@ -77,12 +77,12 @@ module _ (c : ℕ) (t xs : List ℕ) (here : member c xs ≡ true) (out : member
       (λ l. let more : rest ≤ whole - 1 = rest-low (whole - 1) (omega arith) in rw e (omega (arith, whole-high))))
 
   -- as it is tested
-  pub stands-test : eqb whole 0 ≡ (eqb rest 0 && eqb c (top xs))
-  stands-test =
+  pub none-test : eqb whole 0 ≡ (eqb rest 0 && eqb c (top xs))
+  none-test =
       by-test (eqb rest 0 && eqb c (top xs)) (λ e. cc (first-cell, eq-eqb 0 0 refl)) (λ e. cc (first-cell, ne-eqb (suc rest) 0 (λ q. omega arith)))
 
-  pub away-test : (d : ℕ) → eqb whole (suc d) ≡ (not (eqb d 0 && eqb c (top xs)) && eqb rest d)
-  away-test d =
+  pub more-test : (d : ℕ) → eqb whole (suc d) ≡ (not (eqb d 0 && eqb c (top xs)) && eqb rest d)
+  more-test d =
       by-name rest d
       (λ q e. by-test (eqb d 0 && eqb c (top xs))
       (λ f. cc (first-cell, ap (λ (k : ℕ). eqb k 0) q, ne-eqb 0 (suc d) (λ z. omega arith)))

@@ -19,11 +19,11 @@ sets-append list at (x ∷ b) c =
 -- a list that was `first` and gets all of `all` from index `from` on: `left` is yet to be put, from index `at` on
 pub record PiecesLeft (first : List ℕ) (from : ℕ) (all list : List ℕ) (at : ℕ) (left : List ℕ) : Type 0 where
   pub size : length list ≡ length first
-  pub room : at + length left ≤ length list
+  pub room : HasRoom list at left
   pub ends : at + length left ≡ from + length all
   pub rest : sets list at left ≡ sets first from all
 
-pub pieces-start : {first : List ℕ} {from : ℕ} {all : List ℕ} → from + length all ≤ length first → PiecesLeft first from all first from all
+pub pieces-start : {first : List ℕ} {from : ℕ} {all : List ℕ} → HasRoom first from all → PiecesLeft first from all first from all
 pieces-start h = record { size = refl; room = h; ends = refl; rest = refl }
 
 module _ {first : List ℕ} {from : ℕ} {all list : List ℕ} {at : ℕ} where

@@ -26,9 +26,9 @@ use Rattle.theory.proofs.Prefixes.{names-distinct, permutation-prefix, numberin
 use Rattle.theory.proofs.Storing.{others-below}
 use Rattle.reach.specs.Reach.{keep, allPermutations, atDistance, withinReach}
 use Rattle.reach.specs.Claims.{LeastPushes, Reaching, ReachClaims}
-use Rattle.reach.proofs.Entries.{In, at-in, in-at, keep-in, keep-out, flatMap-in, flatMap-out}
+use Rattle.reach.proofs.Entries.{In, at-in, in-at, keep-in, in-keep, flatMap-in, in-flatMap}
 use Rattle.reach.proofs.Sorted.{Sorted, sorted-at, at-sorted, sorted-keep, sorted-flatMap, sorted-as}
-use Rattle.reach.proofs.Branching.{Named, prefix-in, distance-none, distance-many}
+use Rattle.reach.proofs.Branching.{Named, in-prefixes, distance-none, distance-many}
 
 -- ---- all permutations
 
@@ -37,7 +37,7 @@ all-prefixes n = rw (names-length 1 n)
 
 in-permutation : {n : ℕ} {t : List ℕ} → In t (allPermutations (names n)) → IsPermutation n t
 in-permutation {n} {t} m =
-    let over = prefix-in n (names n) (names-distinct n) t (rw (all-prefixes n) at m) in
+    let over = in-prefixes n (names n) (names-distinct n) t (rw (all-prefixes n) at m) in
     let k : Rearranged (names n) (t ++ without t (names n)) = others-below (names n) (names-distinct n) t (over .1 .distinct) (over .1 .named) in
     let none : without t (names n) ≡ [] =
     drop-of-length-le (without t (names n)) {i = 0} (omega (arith, over .0, length-append t (without t (names n)), k .long, names-length 1 n)) in
@@ -80,17 +80,17 @@ module _ {n : ℕ} {xs : List ℕ} (pos : 1 ≤ n) (o : IsPermutation n xs) wher
 -- ---- what is within reach
 
 module _ (n : ℕ) (xs : List ℕ) where
-  distance-out : {t : List ℕ} (d : ℕ) → In t (atDistance (names n) xs d) → In t (allPermutations (names n)) × (rewriteCount xs t ≡ d)
+  in-distance : {t : List ℕ} (d : ℕ) → In t (atDistance (names n) xs d) → In t (allPermutations (names n)) × (rewriteCount xs t ≡ d)
   unfolding atDistance
-  distance-out {t} d m =
-      let k = keep-out (λ u. eqb (rewriteCount xs u) d) (allPermutations (names n)) m in
+  in-distance {t} d m =
+      let k = in-keep (λ u. eqb (rewriteCount xs u) d) (allPermutations (names n)) m in
       (k .0, eqb-true (rewriteCount xs t) d (k .1))
 
-  pub within-out : {t : List ℕ} (r : ℕ) → In t (withinReach n xs r) → IsPermutation n t × (rewriteCount xs t ≤ r)
+  pub in-within : {t : List ℕ} (r : ℕ) → In t (withinReach n xs r) → IsPermutation n t × (rewriteCount xs t ≤ r)
   unfolding withinReach
-  within-out r m =
-      let k = flatMap-out (atDistance (names n) xs) (namesFrom 0 (r + 1)) m in
-      let u = distance-out (k .0) (k .2) in
+  in-within r m =
+      let k = in-flatMap (atDistance (names n) xs) (namesFrom 0 (r + 1)) m in
+      let u = in-distance (k .0) (k .2) in
       (in-permutation (u .0), omega (arith, u .1, names-high 0 (r + 1) (k .0) (k .1)))
 
   within-in : {t : List ℕ} (r : ℕ) → IsPermutation n t → rewriteCount xs t ≤ r → In t (withinReach n xs r)
@@ -109,8 +109,8 @@ module _ (n : ℕ) (xs : List ℕ) where
       let test : List ℕ → Bool = λ t. eqb (rewriteCount xs t) d in
       sorted-as (Lexᴰ _<_) Earlier (keep test (allPermutations (names n)))
       (λ a b i j k. inr (
-        eqb-true (rewriteCount xs a) d (keep-out test (allPermutations (names n)) i .1)
-            ∙ sym (eqb-true (rewriteCount xs b) d (keep-out test (allPermutations (names n)) j .1)),
+        eqb-true (rewriteCount xs a) d (in-keep test (allPermutations (names n)) i .1)
+            ∙ sym (eqb-true (rewriteCount xs b) d (in-keep test (allPermutations (names n)) j .1)),
         k,
       ))
       (sorted-keep (Lexᴰ _<_) test (allPermutations (names n)) (permutations-rise n))
@@ -119,7 +119,7 @@ module _ (n : ℕ) (xs : List ℕ) where
   unfolding withinReach
   within-sorted r =
       sorted-flatMap Earlier (atDistance (names n) xs) (namesFrom 0 (r + 1)) (names-ascending 0 (r + 1)) distance-sorted
-      (λ b c l t u i j. inl (omega (arith, distance-out b i .1, distance-out c j .1)))
+      (λ b c l t u i j. inl (omega (arith, in-distance b i .1, in-distance c j .1)))
 
 -- ---- how many
 
@@ -157,7 +157,7 @@ pub reaching : {n : ℕ} {xs : List ℕ} → IsPermutation n xs → (r : ℕ) �
 reaching {n} {xs} o r l =
     let ts : List (List ℕ) = withinReach n xs r in
     let entry : (i : ℕ) → i < length ts → IsPermutation n (getD ts i []) × (rewriteCount xs (getD ts i []) ≤ r) =
-    λ i h. within-out n xs r (at-in ts i h) in
+    λ i h. in-within n xs r (at-in ts i h) in
     let order : (i j : ℕ) → i < j → j < length ts → Earlier n xs (getD ts i []) (getD ts j []) = sorted-at (Earlier n xs) ts (within-sorted n xs r) in
     let apart : (i j : ℕ) → i < j → j < length ts → getD ts i [] ≡ getD ts j [] → ⊥ =
     λ i j less h e.

@@ -11,7 +11,7 @@ use lib.ListN.{length, getD}
 use Rattle.theory.proofs.Cases.{by-test}
 use Rattle.theory.proofs.Names.{Ascending}
 use Rattle.reach.specs.Reach.{keep}
-use Rattle.reach.proofs.Entries.{In, At, at-in, in-at, keep-out, flatMap-out}
+use Rattle.reach.proofs.Entries.{In, At, at-in, in-at, in-keep, in-flatMap}
 
 module _ (R : List ℕ → List ℕ → Type 0) where
   -- each entry is related to all after it
@@ -36,7 +36,7 @@ module _ (R : List ℕ → List ℕ → Type 0) where
   sorted-keep test [] s = tt
   sorted-keep test (t ∷ ts) s =
       by-test (test t)
-      (λ f. rw f (λ u m. s .0 u (keep-out test ts m .0), sorted-keep test ts (s .1)))
+      (λ f. rw f (λ u m. s .0 u (in-keep test ts m .0), sorted-keep test ts (s .1)))
       (λ f. rw f (sorted-keep test ts (s .1)))
 
   sorted-append : (ts us : List (List ℕ)) → Sorted ts → Sorted us → ((a b : List ℕ) → In a ts → In b us → R a b) → Sorted (ts ++ us)
@@ -54,7 +54,7 @@ module _ (R : List ℕ → List ℕ → Type 0) where
   sorted-flatMap f [] a s h = tt
   sorted-flatMap f (c ∷ cs) a s h =
       sorted-append (f c) (flatMap f cs) (s c) (sorted-flatMap f cs (a .1) s h)
-      (λ t u i j. let w = flatMap-out f cs j in h c (w .0) (a .0 (w .0) (w .1)) t u i (w .2))
+      (λ t u i j. let w = in-flatMap f cs j in h c (w .0) (a .0 (w .0) (w .1)) t u i (w .2))
 
 -- one relation for another
 pub sorted-as :

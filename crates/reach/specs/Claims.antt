@@ -1,5 +1,5 @@
 -- What is claimed of a listing of the permutations within reach: of `withinReach`, for any number of cells, and by the contract of the bytes that were listed. It
--- speaks of rows of pushes, and not of how their least number is found. Assumes nothing.
+-- speaks of rows of pushes, and not of how their least number is found. `proofs/Reaching` proves it. Assumes nothing.
 use mathlib.Core.Path.{_≡_}
 use mathlib.Core.List.{List, [], Lexᴰ}
 use mathlib.Core.Logic.{_⊎_}
@@ -41,8 +41,8 @@ pub record Reaching (n : ℕ) (xs : List ℕ) (r many : ℕ) (entry : ℕ → Li
   pub every : (is : List ℕ) → Places n is → length is ≤ r → IsEntry many entry (pushes is xs)
   -- "each exactly once"
   pub once : (i j : ℕ) → i < many → j < many → entry i ≡ entry j → i ≡ j
-  -- "Fewest pushes come first, then lexicographic sequence." Of two entries the first has fewer (the left of `⊎`, or), or as many and comes first by its names, which
-  -- is what `Lexᴰ` says for their order by `<`
+  -- "Fewest pushes come first, then lexicographic sequence." Of two entries the first has fewer, or (`⊎`) as many and comes first by its names: `Lexᴰ _<_` is
+  -- lexicographic sequence
   pub sequence :
       (i j : ℕ) → i < j → j < many → (a b : ℕ) → LeastPushes n xs (entry i) a → LeastPushes n xs (entry j) b
       → (a < b) ⊎ ((a ≡ b) × Lexᴰ _<_ (entry i) (entry j))

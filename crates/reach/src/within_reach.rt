@@ -3,7 +3,6 @@ ghost use mathlib.Core.Path.{_≡_};
 ghost use lib.ListN.{length};
 ghost use Rattle.reach.specs.Answers.{reachAnswer, reachList, ReachOf};
 use super::answers::Reached;
-use super::answers::none_reached;
 use super::list::list_within;
 use charge::judge::read_number;
 use charge::sort::sort_cells;
@@ -11,6 +10,16 @@ use permutation::reasons::FIT;
 use permutation::reasons::VALUE;
 use ranking::factorials::factorial_table;
 use ranking::factorials::falling;
+
+// The job is refused: 0 beside the number.
+fn none_reached(number: u8) -> Reached
+    ensures { λ r. ⌜ r ≡ record { number = number; permutations = 0 } ⌝ }
+{
+    Reached {
+        number,
+        permutations: 0,
+    }
+}
 
 // `reaching`: what the list then has is what the rows of at most r pushes lead to, each once and in sequence.
 pub fn within_reach(levels: &[u16], r: usize, list: &mut [u8]) -> Reached

@@ -1,4 +1,4 @@
--- Factorials are positive, those up to 20! fit 64 bits, and falling factorials are their quotients. Assumes nothing.
+-- Factorials are positive, those up to 20! fit 64 bits, and falling factorials are their quotients and grow by a factor. Assumes nothing.
 use mathlib.Core.Path.{_≡_, refl, ap, sym, _∙_}
 use Prim.Native.Nat.{ℕ, zero, suc, _-_, _*_, _/_, _≤_}
 use native.Mathlib.Nat.{le-of-suc-le-suc, mul-assoc, mul-le-mul-left, mul-le-mul-right, div-eq-of-eq-mul-left, div-le-self}

@@ -1,4 +1,4 @@
--- The test of a relative sequence decides sublists; what is left of a list is a sublist of it. Assumes nothing.
+-- The test of a relative sequence decides sublists; what is left of a list is a sublist of it; no sublist is longer than its list. Assumes nothing.
 use mathlib.Core.Path.{_≡_, refl, sym, _∙_}
 use mathlib.Core.Bool.{true, false, not, false≢true}
 use mathlib.Core.Logic.{⊎-elim}
