@@ -29,11 +29,11 @@ extern "C" {
 
 /* The version of this header and its library; README.md and the Rust package have the same. The second number counts landings (docs/landings/), each of which
  * may change what a caller sees; the third counts corrections since, which change nothing that a caller relies on. The first is 0 until a release. */
-#define TM_VERSION "0.13.0"
+#define TM_VERSION "0.14.0"
 /* The most cells of a group, and the places of a record's row. */
 #define TM_CELLS 20
 /* The most bytes of a sheet without fault; a longer one is faulty. */
-#define TM_SHEET_BYTES 24627
+#define TM_SHEET_BYTES 24692
 /* A buffer of so many bytes has room for the text of any sheet. */
 #define TM_TEXT_BYTES 31344
 
@@ -46,12 +46,19 @@ enum tm_reason {
                        entries than the others say */
     TM_MUDDLE = 3,  /* muddle: a record is no permutation */
     TM_TIE = 4,     /* tie: two levels are equal */
-    TM_VALUE = 5,   /* value: a rank, place, m, symbol or r is outside its range; a lowest level is above its highest; or a listing would exceed 65,536 bytes */
+    TM_VALUE = 5,   /* value: a rank, value, zero, place, m, symbol or r is outside its range; a lowest level is above its highest; or a listing would exceed
+                       65,536 bytes */
     TM_CEILING = 6, /* ceiling: the highest level plus the job's pushes exceeds 65,535 */
     TM_IDLE = 7,    /* idle: the prefix that leads is that of none of the m symbols */
     TM_SHEET = 8,   /* sheet: a bench sheet is ill-formed, or what is to be written is on none: a count, kind, group number or k is outside its range */
     TM_PAPER = 9,   /* paper: a lent list is shorter than the sheet that is to be written */
     TM_UNSURE = 10  /* unsure: bands leave open which permutation it is, or which prefix leads */
+};
+
+/* Document 02: the zero of a group, the permutation from which its value is counted. It crosses as a byte. */
+enum tm_zero {
+    TM_OLD_ZERO = 0, /* the permutation of rank 0, so that the value is the rank */
+    TM_NEW_ZERO = 1  /* [1, 2, ..., n] */
 };
 
 /* Document 01: an order. The first n places of `cells` hold each of 1 to n once, highest charge first; the places past n hold 0, and a record that has anything
@@ -81,6 +88,11 @@ typedef struct tm_ranked {
     uint8_t number;
     uint64_t rank;
 } tm_ranked;
+
+typedef struct tm_valued {
+    uint8_t number;
+    uint64_t value;
+} tm_valued;
 
 /* What a job that pushes on levels spends: its number of pushes, and its charge (document 02), the total of their jumps. The jump of a push is its cell's new
  * level less the old, so that the charge equals the sum of all levels after the call less the sum before; it is at most 20 * 65,535 and fits. Refused, both are 0. */
@@ -132,6 +144,15 @@ tm_ranked tm_rank(tm_permutation permutation);
 /* The permutation of n cells whose rank is `rank`.
  * Refused: 1 size, n is not 2 to 20; 5 value, `rank` is n! or more. */
 tm_permuted tm_unrank(size_t n, uint64_t rank);
+
+/* The value on a zero (enum tm_zero), 0 to n! - 1: the rank less the rank of the zero's permutation, modulo n!. It is the least number of next steps that lead
+ * here from that permutation, and k steps add k to it, modulo n!.
+ * Refused: 1 size, n is not 2 to 20; 3 muddle, the record is no permutation; 5 value, `zero` is neither 0 nor 1. */
+tm_valued tm_value(tm_permutation permutation, uint8_t zero);
+
+/* The permutation of n cells whose value on a zero is `value`.
+ * Refused: 1 size, n is not 2 to 20; 5 value, `value` is n! or more, or `zero` is neither 0 nor 1. */
+tm_permuted tm_permutation_of_value(size_t n, uint64_t value, uint8_t zero);
 
 /* ---- charge levels: the group has n cells, levels[0] to levels[n - 1] ---- */
 
@@ -203,10 +224,10 @@ tm_symbol tm_read_symbol_bands(const uint16_t *lowest, size_t n, const uint16_t 
 
 /* ---- the bench sheet ---- */
 
-/* Works through a bench sheet of `length` bytes and lays the whole printed text, as document 01 gives it, in the first bytes of `text`, which has `room` bytes.
- * Gives the text's length; no 0 byte is put after it. A faulty sheet is done too: its text is one line, "s", a space, the number of the first fault met (1 size,
- * 4 tie, 8 sheet) and a newline. Each command of a good sheet has its own number in its line: 0, 3 muddle, 5 value or 6 ceiling. README.md works an example
- * byte by byte.
+/* Works through a bench sheet of `length` bytes and lays the whole printed text, as documents 01 and 02 give it, in the first bytes of `text`, which has `room`
+ * bytes. Gives the text's length; no 0 byte is put after it. A faulty sheet is done too: its text is one line, "s", a space, the number of the first fault met
+ * (1 size, 4 tie, 8 sheet) and a newline. Each command of a good sheet has its own number in its line: 0, 3 muddle, 5 value or 6 ceiling. The line of a group has
+ * its number, its value on its zero, and its levels. README.md works an example byte by byte.
  * Refused: 2 fit, the text has more than `room` bytes. With TM_TEXT_BYTES it is never refused.
  * Unchanged: `sheet`, always, and the bytes of `text` after the text; refused, all of `text`. */
 tm_printed tm_bench(const uint8_t *sheet, size_t length, uint8_t *text, size_t room);
@@ -214,10 +235,11 @@ tm_printed tm_bench(const uint8_t *sheet, size_t length, uint8_t *text, size_t r
 /* Writes a bench sheet from groups and commands into the first bytes of `out`, which has `room` bytes. Gives the sheet's length: TM_SHEET_BYTES are always
  * enough. What is written is read by tm_bench as these groups and commands, and a sheet without fault that has these groups and commands has just these bytes.
  *
- * The groups and commands stand in six lists, one for each field, each followed by its length. Each group and each command has a row in a list, one after the
+ * The groups and commands stand in seven lists, one for each field, each followed by its length. Each group and each command has a row in a list, one after the
  * other:
  * - sizes: n of each group, so that its length is the number of groups;
  * - levels: 20 places to a group, its levels by cell name; places past n are not looked at;
+ * - zeros: of each group, 0 old, 1 new (enum tm_zero); where one is new, the sheet ends with a section that names those that are;
  * - kinds: of each command, 1 count up, 2 rewrite, 3 store, so that its length is the number of commands;
  * - groups: the group number of each command, from 0;
  * - numbers: 2 places to a command: k of a count up, n of a rewrite's target (and in both a place that is not looked at), m and s of a store;
@@ -226,20 +248,22 @@ tm_printed tm_bench(const uint8_t *sheet, size_t length, uint8_t *text, size_t r
  *
  *   size_t sizes[1] = {3};
  *   uint16_t levels[1][TM_CELLS] = {{3, 1, 2}};
+ *   uint8_t zeros[1] = {TM_OLD_ZERO};
  *   uint8_t kinds[3] = {1, 2, 3}, groups[3] = {0, 0, 0};
  *   uint64_t numbers[3][2] = {{4}, {3}, {3, 3}};
  *   uint8_t names[3][TM_CELLS] = {{0}, {3, 1, 2}};
  *   uint8_t out[TM_SHEET_BYTES];
- *   tm_written sheet = tm_write_sheet(sizes, 1, levels[0], TM_CELLS, kinds, 3, groups, 3, numbers[0], 6, names[0], 3 * TM_CELLS, out, sizeof out);
+ *   tm_written sheet = tm_write_sheet(sizes, 1, levels[0], TM_CELLS, zeros, 1, kinds, 3, groups, 3, numbers[0], 6, names[0], 3 * TM_CELLS, out, sizeof out);
  *
- * Refused: 2 fit, a list is too short for the numbers of groups and of commands. Then the first met in the sheet's sequence: 8 sheet, there are not 1 to 64
- * groups; for each group, 1 size, n is not 2 to 20, then 4 tie, two of its levels are equal; 8 sheet, there are more than 1,000 commands; for each command,
- * 8 sheet, its kind is not 1 to 3, its k is above 4,294,967,295 or there is no such group, and for a rewrite, 2 fit, its n is not its group's, then 3 muddle, a name
- * past n is not 0. The names inside n are not judged: tm_bench does so. After all these 9 paper, the sheet has more than `room` bytes.
- * Unchanged: the six lists, always, and the bytes of `out` after the sheet; refused, all of `out`. */
-tm_written tm_write_sheet(const size_t *sizes, size_t sizes_length, const uint16_t *levels, size_t levels_length, const uint8_t *kinds, size_t kinds_length,
-                          const uint8_t *groups, size_t groups_length, const uint64_t *numbers, size_t numbers_length, const uint8_t *names, size_t names_length,
-                          uint8_t *out, size_t room);
+ * Refused: 2 fit, a list is too short for the numbers of groups and of commands; then 5 value, the zero of a group is neither 0 nor 1. Then the first met in the
+ * sheet's sequence: 8 sheet, there are not 1 to 64 groups; for each group, 1 size, n is not 2 to 20, then 4 tie, two of its levels are equal; 8 sheet, there are
+ * more than 1,000 commands; for each command, 8 sheet, its kind is not 1 to 3, its k is above 4,294,967,295 or there is no such group, and for a rewrite, 2 fit,
+ * its n is not its group's, then 3 muddle, a name past n is not 0. The names inside n are not judged: tm_bench does so. After all these 9 paper, the sheet has more
+ * than `room` bytes.
+ * Unchanged: the seven lists, always, and the bytes of `out` after the sheet; refused, all of `out`. */
+tm_written tm_write_sheet(const size_t *sizes, size_t sizes_length, const uint16_t *levels, size_t levels_length, const uint8_t *zeros, size_t zeros_length,
+                          const uint8_t *kinds, size_t kinds_length, const uint8_t *groups, size_t groups_length, const uint64_t *numbers, size_t numbers_length,
+                          const uint8_t *names, size_t names_length, uint8_t *out, size_t room);
 
 #ifdef __cplusplus
 }

@@ -10,6 +10,7 @@ _Static_assert(sizeof(tm_permuted) == 40 && offsetof(tm_permuted, permutation) =
 _Static_assert(sizeof(tm_placed) == 16 && offsetof(tm_placed, place) == 8, "tm_placed");
 _Static_assert(sizeof(tm_digit_row) == 21 && offsetof(tm_digit_row, row) == 1, "tm_digit_row");
 _Static_assert(sizeof(tm_ranked) == 16 && offsetof(tm_ranked, rank) == 8, "tm_ranked");
+_Static_assert(sizeof(tm_valued) == 16 && offsetof(tm_valued, value) == 8, "tm_valued");
 _Static_assert(sizeof(tm_pushes) == 12 && offsetof(tm_pushes, pushes) == 4 && offsetof(tm_pushes, charge) == 8, "tm_pushes");
 _Static_assert(sizeof(tm_reached) == 16 && offsetof(tm_reached, permutations) == 8, "tm_reached");
 _Static_assert(sizeof(tm_symbol) == 16 && offsetof(tm_symbol, symbol) == 8, "tm_symbol");
@@ -17,7 +18,8 @@ _Static_assert(sizeof(tm_printed) == 16 && offsetof(tm_printed, length) == 8, "t
 _Static_assert(sizeof(tm_written) == 16 && offsetof(tm_written, length) == 8, "tm_written");
 
 /* The constants of compare/bindings/src/lib.rs. */
-_Static_assert(TM_CELLS == 20 && TM_SHEET_BYTES == 24627 && TM_TEXT_BYTES == 31344 && TM_SHEET == 8 && TM_PAPER == 9 && TM_UNSURE == 10, "constants");
+_Static_assert(TM_CELLS == 20 && TM_SHEET_BYTES == 24692 && TM_TEXT_BYTES == 31344 && TM_SHEET == 8 && TM_PAPER == 9 && TM_UNSURE == 10, "constants");
+_Static_assert(TM_OLD_ZERO == 0 && TM_NEW_ZERO == 1, "zeros");
 
 static int passed, failed;
 
@@ -31,14 +33,14 @@ static void check(int holds, const char *what, int line) {
 }
 #define CHECK(holds) check((holds), #holds, __LINE__)
 
-static const tm_permutation zeros = {0, {0}};
+static const tm_permutation blank_record = {0, {0}};
 
 static int same(tm_permutation a, tm_permutation b) {
     return a.n == b.n && memcmp(a.cells, b.cells, TM_CELLS) == 0;
 }
 
 static int refused(tm_permuted answer, uint8_t number) {
-    return answer.number == number && same(answer.permutation, zeros);
+    return answer.number == number && same(answer.permutation, blank_record);
 }
 
 static int spent(tm_pushes answer, uint32_t pushes, uint32_t charge) {
@@ -69,6 +71,37 @@ static void check_permutations(void) {
     answer = tm_unrank(6, 219);
     CHECK(answer.number == TM_DONE && same(answer.permutation, six));
     CHECK(refused(tm_unrank(3, 6), TM_VALUE) && refused(tm_unrank(21, 0), TM_SIZE));
+}
+
+static int valued(tm_valued answer, uint8_t number, uint64_t value) {
+    return answer.number == number && answer.value == value;
+}
+
+/* Document 02, request 7: "[1,2,3,4] is 10 on the old and 0 on the new, and [1,3,2] is 0 and 2". Then twenty cells: 20! is 2,432,902,008,176,640,000. */
+static void check_values(void) {
+    const tm_permutation four = {4, {1, 2, 3, 4}}, three = {3, {1, 3, 2}}, small = {1, {1}}, muddled = {4, {4, 2, 2, 1}};
+    const tm_permutation twenty = {20, {1, 2, 3, 4, 5, 6, 7, 8, 9, 10, 11, 12, 13, 14, 15, 16, 17, 18, 19, 20}};
+    const uint64_t round = 2432902008176640000;
+    CHECK(valued(tm_value(four, TM_OLD_ZERO), TM_DONE, 10) && valued(tm_value(four, TM_NEW_ZERO), TM_DONE, 0));
+    CHECK(valued(tm_value(three, TM_OLD_ZERO), TM_DONE, 0) && valued(tm_value(three, TM_NEW_ZERO), TM_DONE, 2));
+    CHECK(valued(tm_value(four, 2), TM_VALUE, 0) && valued(tm_value(four, 255), TM_VALUE, 0));
+    CHECK(valued(tm_value(small, TM_NEW_ZERO), TM_SIZE, 0) && valued(tm_value(small, 2), TM_SIZE, 0));
+    CHECK(valued(tm_value(muddled, TM_NEW_ZERO), TM_MUDDLE, 0) && valued(tm_value(muddled, 2), TM_MUDDLE, 0));
+    tm_permuted old = tm_permutation_of_value(4, 10, TM_OLD_ZERO), new = tm_permutation_of_value(4, 0, TM_NEW_ZERO);
+    CHECK(old.number == TM_DONE && same(old.permutation, four) && new.number == TM_DONE && same(new.permutation, four));
+    old = tm_permutation_of_value(3, 0, TM_OLD_ZERO);
+    new = tm_permutation_of_value(3, 2, TM_NEW_ZERO);
+    CHECK(old.number == TM_DONE && same(old.permutation, three) && new.number == TM_DONE && same(new.permutation, three));
+    CHECK(refused(tm_permutation_of_value(3, 6, TM_OLD_ZERO), TM_VALUE) && refused(tm_permutation_of_value(3, 6, TM_NEW_ZERO), TM_VALUE));
+    CHECK(refused(tm_permutation_of_value(3, 2, 2), TM_VALUE) && refused(tm_permutation_of_value(3, 2, 255), TM_VALUE));
+    CHECK(refused(tm_permutation_of_value(21, 0, TM_NEW_ZERO), TM_SIZE) && refused(tm_permutation_of_value(1, 1, 2), TM_SIZE));
+    old = tm_permutation_of_value(20, tm_rank(twenty).rank, TM_OLD_ZERO);
+    new = tm_permutation_of_value(20, 0, TM_NEW_ZERO);
+    CHECK(same(old.permutation, twenty) && same(new.permutation, twenty));
+    new = tm_permutation_of_value(20, round - 1, TM_NEW_ZERO);
+    tm_permuted next = tm_push(new.permutation, tm_successor(new.permutation).place);
+    CHECK(new.number == TM_DONE && valued(tm_value(new.permutation, TM_NEW_ZERO), TM_DONE, round - 1) && same(next.permutation, twenty));
+    CHECK(refused(tm_permutation_of_value(20, round, TM_NEW_ZERO), TM_VALUE) && refused(tm_permutation_of_value(20, UINT64_MAX, TM_NEW_ZERO), TM_VALUE));
 }
 
 static void check_levels(void) {
@@ -186,8 +219,9 @@ static void check_reach(void) {
     CHECK(memcmp(longest + 53752, last, 8) == 0 && memcmp(longest + 53760, blanks, 161280 - 53760) == 0);
 }
 
-/* Document 01's bench sheet. */
+/* Document 01's bench sheet, and with its group on the new zero. */
 static const uint8_t sheet[] = {1, 3, 3, 0, 1, 0, 2, 0, 3, 0, 1, 0, 4, 0, 0, 0, 2, 0, 3, 1, 2, 3, 0, 3, 0, 0, 0, 0, 0, 0, 0, 3, 0, 0, 0, 0, 0, 0, 0};
+static const uint8_t renewed[] = {1, 3, 3, 0, 1, 0, 2, 0, 3, 0, 1, 0, 4, 0, 0, 0, 2, 0, 3, 1, 2, 3, 0, 3, 0, 0, 0, 0, 0, 0, 0, 3, 0, 0, 0, 0, 0, 0, 0, 1, 0};
 
 static void check_sheet(void) {
     const char expected[] = "c 1 0 4\nc 2 0 1\nc 3 5 0\ng 0 5 7 6 8\n", faulty[] = "s 8\n";
@@ -205,20 +239,26 @@ static void check_sheet(void) {
     CHECK(printed.number == TM_DONE && printed.length == length && memcmp(page, expected, length) == 0);
     printed = tm_bench(sheet, sizeof sheet - 1, text, sizeof text);
     CHECK(printed.number == TM_DONE && printed.length == 4 && memcmp(text, faulty, 4) == 0);
+    /* rank 5 is 1 on the new zero, since [1,2,3] has rank 4 */
+    const char new_text[] = "c 1 0 4\nc 2 0 1\nc 3 5 0\ng 0 1 7 6 8\n";
+    printed = tm_bench(renewed, sizeof renewed, text, sizeof text);
+    CHECK(printed.number == TM_DONE && printed.length == length && memcmp(text, new_text, length) == 0);
+    printed = tm_bench(renewed, sizeof renewed - 1, text, sizeof text);
+    CHECK(printed.number == TM_DONE && printed.length == 4 && memcmp(text, faulty, 4) == 0);
 }
 
 /* One group and three commands, in the lists of tm_write_sheet; those of that sheet are `paper`. */
 typedef struct held {
     size_t sizes[1];
     uint16_t levels[TM_CELLS];
-    uint8_t kinds[3], groups[3];
+    uint8_t zeros[1], kinds[3], groups[3];
     uint64_t numbers[6];
     uint8_t names[3 * TM_CELLS];
 } held;
-static const held paper = {{3}, {3, 1, 2}, {1, 2, 3}, {0, 0, 0}, {4, 0, 3, 0, 3, 3}, {[TM_CELLS] = 3, 1, 2}};
+static const held paper = {{3}, {3, 1, 2}, {TM_OLD_ZERO}, {1, 2, 3}, {0, 0, 0}, {4, 0, 3, 0, 3, 3}, {[TM_CELLS] = 3, 1, 2}};
 
 static tm_written write_held(held h, uint8_t *out, size_t room) {
-    return tm_write_sheet(h.sizes, 1, h.levels, TM_CELLS, h.kinds, 3, h.groups, 3, h.numbers, 6, h.names, 3 * TM_CELLS, out, room);
+    return tm_write_sheet(h.sizes, 1, h.levels, TM_CELLS, h.zeros, 1, h.kinds, 3, h.groups, 3, h.numbers, 6, h.names, 3 * TM_CELLS, out, room);
 }
 
 /* Refused by this number, and no byte altered. */
@@ -234,11 +274,12 @@ static int unwritten(held h, size_t room, uint8_t number) {
 static tm_written header_example(uint8_t *written) {
     size_t sizes[1] = {3};
     uint16_t levels[1][TM_CELLS] = {{3, 1, 2}};
+    uint8_t zeros[1] = {TM_OLD_ZERO};
     uint8_t kinds[3] = {1, 2, 3}, groups[3] = {0, 0, 0};
     uint64_t numbers[3][2] = {{4}, {3}, {3, 3}};
     uint8_t names[3][TM_CELLS] = {{0}, {3, 1, 2}};
     uint8_t out[TM_SHEET_BYTES];
-    tm_written sheet = tm_write_sheet(sizes, 1, levels[0], TM_CELLS, kinds, 3, groups, 3, numbers[0], 6, names[0], 3 * TM_CELLS, out, sizeof out);
+    tm_written sheet = tm_write_sheet(sizes, 1, levels[0], TM_CELLS, zeros, 1, kinds, 3, groups, 3, numbers[0], 6, names[0], 3 * TM_CELLS, out, sizeof out);
     memcpy(written, out, sheet.length);
     return sheet;
 }
@@ -253,7 +294,17 @@ static void check_writing(void) {
     memset(out, 'x', sizeof out);
     CHECK(header_example(out).length == sizeof sheet && memcmp(out, sheet, sizeof sheet) == 0);
     CHECK(write_held(paper, out, sizeof sheet).number == TM_DONE && unwritten(paper, sizeof sheet - 1, TM_PAPER) && unwritten(paper, 0, TM_PAPER));
-    held unsized = paper, tied = paper, kind = paper, group = paper, count = paper, unfit = paper, muddled = paper, unseen = paper;
+    held new = paper, unzeroed = paper, unsized = paper, tied = paper, kind = paper, group = paper, count = paper, unfit = paper, muddled = paper, unseen = paper;
+    new.zeros[0] = TM_NEW_ZERO;
+    memset(out, 'x', sizeof out);
+    answer = write_held(new, out, sizeof out);
+    CHECK(answer.number == TM_DONE && answer.length == sizeof renewed && memcmp(out, renewed, sizeof renewed) == 0);
+    CHECK(memcmp(out + sizeof renewed, blank, sizeof out - sizeof renewed) == 0 && unwritten(new, sizeof sheet, TM_PAPER));
+    unzeroed.zeros[0] = 2;
+    CHECK(unwritten(unzeroed, 64, TM_VALUE) && unwritten(unzeroed, 0, TM_VALUE));
+    unzeroed.sizes[0] = 21;
+    unzeroed.zeros[0] = 255;
+    CHECK(unwritten(unzeroed, 64, TM_VALUE));
     unsized.sizes[0] = 21;
     tied.levels[2] = 3;
     kind.kinds[2] = 4;
@@ -284,14 +335,16 @@ static void check_null(void) {
     CHECK(tm_bench(NULL, 0, NULL, 0).number == TM_FIT);
     CHECK(tm_bench(NULL, 0, text, sizeof text).length == 4 && memcmp(text, "s 8\n", 4) == 0);
     const held *h = &paper;
-    CHECK(tm_write_sheet(NULL, 0, NULL, 0, NULL, 0, NULL, 0, NULL, 0, NULL, 0, NULL, 0).number == TM_SHEET);
-    CHECK(tm_write_sheet(h->sizes, 1, NULL, 0, NULL, 0, NULL, 0, NULL, 0, NULL, 0, NULL, 0).number == TM_FIT);
-    CHECK(tm_write_sheet(h->sizes, 1, h->levels, TM_CELLS, NULL, 0, NULL, 0, NULL, 0, NULL, 0, NULL, 0).number == TM_PAPER);
-    CHECK(tm_write_sheet(h->sizes, 1, h->levels, TM_CELLS, h->kinds, 1, NULL, 0, NULL, 0, NULL, 0, NULL, 0).number == TM_FIT);
+    CHECK(tm_write_sheet(NULL, 0, NULL, 0, NULL, 0, NULL, 0, NULL, 0, NULL, 0, NULL, 0, NULL, 0).number == TM_SHEET);
+    CHECK(tm_write_sheet(h->sizes, 1, NULL, 0, h->zeros, 1, NULL, 0, NULL, 0, NULL, 0, NULL, 0, NULL, 0).number == TM_FIT);
+    CHECK(tm_write_sheet(h->sizes, 1, h->levels, TM_CELLS, NULL, 0, NULL, 0, NULL, 0, NULL, 0, NULL, 0, NULL, 0).number == TM_FIT);
+    CHECK(tm_write_sheet(h->sizes, 1, h->levels, TM_CELLS, h->zeros, 1, NULL, 0, NULL, 0, NULL, 0, NULL, 0, NULL, 0).number == TM_PAPER);
+    CHECK(tm_write_sheet(h->sizes, 1, h->levels, TM_CELLS, h->zeros, 1, h->kinds, 1, NULL, 0, NULL, 0, NULL, 0, NULL, 0).number == TM_FIT);
 }
 
 int main(void) {
     check_permutations();
+    check_values();
     check_levels();
     check_rewriting();
     check_symbols();

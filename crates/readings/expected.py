@@ -33,7 +33,7 @@ def do_walk(steps, every, n, *names):
 JOBS = dict(rank=do_rank, digits=do_digits, successor=do_successor, push=do_push, run_steps=do_run_steps, unrank=do_unrank, read=do_read,
             push_level=do_push_level, count_up=do_count_up, run_levels=do_run_levels, run_calls=do_run_calls, rewrite=do_rewrite, prefix=do_prefix,
             store=do_store, read_symbol=do_read_symbol, symbols=do_symbols, write=do_write, read_bands=do_read_bands,
-            read_symbol_bands=do_read_symbol_bands, reach=do_reach, reach_sum=do_reach_sum)
+            read_symbol_bands=do_read_symbol_bands, reach=do_reach, reach_sum=do_reach_sum, value=do_value, of_value=do_of_value)
 
 
 def answer(line):
@@ -66,14 +66,13 @@ LENGTHS = {4: 1, 5: 2, 12: 2, 13: 3}
 PREFIX, PREFIX_NUMBER = [3, 1], 6
 # Document 02, request 1: an order on which symbol 6 of 12 needs no push
 STANDING = [3, 1, 2, 4]
-# Document 02, request 2: document 01's sheet, held, and its bytes; held sheets that a sentence of the request sends back, with the number; the longest sheet
+# Document 02, request 2: document 01's sheet, held, and its bytes; held sheets that a sentence of the request sends back, with the number
 HELD = "1 | 3 3 1 2 | 3 | 1 0 4 | 2 0 3 3 3 1 2 | 3 0 3 3"
 HELD_BYTES = "1 3 3 0 1 0 2 0 3 0 1 0 4 0 0 0 2 0 3 1 2 3 0 3 0 0 0 0 0 0 0 3 0 0 0 0 0 0 0"
 UNWRITTEN = {"write 9 | 65": 8, "write 9 | 1 | 21 1 2 3 4 5 6 7 8 9 10 11 12 13 14 15 16 17 18 19 20 | 0": 1, "write 9 | 1 | 2 7 7 | 0": 4,
              "write 12 | 1 | 3 3 1 2 | 1001": 8, "write 20 | 1 | 2 7 9 | 1 | 1 1 4": 8, "write 20 | 1 | 3 3 1 2 | 1 | 2 0 2 2 2 1": 2,
              "write 20 | 1 | 3 3 1 2 | 1 | 2 0 3 4 3 1 2 1": 3, "write 20 | 1 | 3 3 1 2 | 1 | 2 0 2 4 2 1 0 1": 2, "write 0 | 1 | 2 0 65535 | 0": 9,
              "write 0 | 1 | 2 7 7 | 0": 4}
-LONGEST = 24627
 # Document 02, request 3: charges by hand, jump by jump. Document 01's sheet, and its count up push by push; each place; 0 to 65,535; none; several pushes
 CHARGES = {"count_up 4 of 3 1 2": 3 + 3 + 2 + 4, "rewrite 2 bytes 3 levels 7 6 5 to 3 | 3 1 2": 3, "store 3 of 3 on 7 6 8": 0, "push_level 3 of 3 1 2": 3,
            "push_level 3 of 3 4 2": 3, "push_level 2 of 3 4 5": 2, "push_level 3 of 3 6 5": 4, "push_level 2 of 4 3 2 1": 2, "push_level 3 of 4 3 2 1": 3,
@@ -117,6 +116,24 @@ REACH = {"reach 0 2 | 2 1": "0 1 | 1 2", "reach 1 4 | 2 1": "0 2 | 1 2 2 1", "re
          "reach 2 3 | 1 2": "5 0 | 99 99 99", "reach 18446744073709551615 0 | 3 2 1": "5 0 |", "reach 1 3 | 1 2": "2 0 | 99 99 99"}
 # .. the bytes of the longest listings and of the shortest above 65,536, by n and r
 LISTINGS = {(8, 5): 53760, (16, 3): 53760, (17, 3): 69360}
+
+# Document 02, request 7: the orders that it prints, with their values on the old and on the new zero; "the longest sheet becomes 24,692 bytes"
+VALUES = {(1, 2, 3, 4): (10, 0), (1, 3, 2): (0, 2)}
+LONGEST = 24692
+# .. by hand, from document 01's readings. Its ranks 0 to 5 of 3 cells, on the new zero, as [1,2,3] has rank 4; of 4 cells, as [1,2,3,4] has 10; of 2 cells, as [1,2]
+# has 0; size, muddle, value, each before the next; the values that are past the last
+VALUED = {"value 1 3 | 1 3 2": "0 2", "value 1 3 | 2 1 3": "0 3", "value 1 3 | 3 2 1": "0 4", "value 1 3 | 2 3 1": "0 5", "value 1 3 | 1 2 3": "0 0",
+          "value 1 3 | 3 1 2": "0 1", "of_value 1 3 0": "0 3 | 1 2 3", "of_value 1 3 1": "0 3 | 3 1 2", "of_value 1 3 2": "0 3 | 1 3 2",
+          "of_value 1 3 5": "0 3 | 2 3 1", "value 1 4 | 1 4 2 3": "0 14", "value 1 4 | 4 1 2 3": "0 1", "value 1 4 | 4 2 1 3": "0 13",
+          "of_value 1 4 1": "0 4 | 4 1 2 3", "of_value 1 4 13": "0 4 | 4 2 1 3", "of_value 1 4 14": "0 4 | 1 4 2 3", "value 0 2 | 2 1": "0 1",
+          "value 1 2 | 2 1": "0 1", "of_value 1 2 1": "0 2 | 2 1", "value 1 1 | 1": "1 0", "value 2 1 | 1": "1 0", "value 1 3 | 1 3 3": "3 0",
+          "value 2 3 | 1 3 3": "3 0", "value 2 3 | 1 3 2": "5 0", "value 255 3 | 1 3 2": "5 0", "of_value 0 3 6": "5 0 | 0", "of_value 1 3 6": "5 0 | 0",
+          "of_value 1 1 1": "1 0 | 0", "of_value 2 3 0": "5 0 | 0", "of_value 255 21 18446744073709551615": "1 0 | 0",
+          f"of_value 1 20 {factorial(20)}": "5 0 | 0"}
+# .. document 01's sheet on the new zero: the section has a count, 1, and the number 0. Two groups of three, and none; paper, that lacks bytes of the section alone
+ZEROED = {f"write 41 | {HELD} | 1": f"0 41 | {HELD_BYTES} 1 0", f"write 40 | {HELD} | 1": "9 0 |" + " 9" * 40, f"write 39 | {HELD} | 1": "9 0 |" + " 9" * 39,
+          "write 26 | 3 | 2 7 9 | 3 3 1 2 | 2 9 7 | 0 | 1 0 1": "0 23 | 3 2 7 0 9 0 3 3 0 1 0 2 0 2 9 0 7 0 0 0 2 0 2 9 9 9",
+          "write 26 | 3 | 2 7 9 | 3 3 1 2 | 2 9 7 | 0 | 0 0 0": "0 20 | 3 2 7 0 9 0 3 3 0 1 0 2 0 2 9 0 7 0 0 0 9 9 9 9 9 9"}
 
 # Document 001. The text at hand has no pictures: of Example 1 it has the places, of Example 9 and Fig. 2 what is said of them, of the levels in Fig. 3 no numbers.
 EXAMPLE_1 = [2, 3, 3, 2, 3, 3]
@@ -312,8 +329,9 @@ def check_writing(lines):
         room, *numbers = [int(word) for word in line.split() if word.isdigit()]
         assert room <= 64 and len(numbers) < 64, "what the program reads of a line and lends"
     group, rewrite = (20, [*range(20)]), (2, 63, 20, [*range(20)])
-    number, made = write_sheet(LONGEST, 64, [group] * 64, 1000, [rewrite] * 1000)
-    assert number == 0 and len(made) == LONGEST and write_sheet(LONGEST - 1, 64, [group] * 64, 1000, [rewrite] * 1000) == (9, [])
+    longest = (64, [group] * 64, 1000, [rewrite] * 1000, [1] * 64)
+    number, made = write_sheet(LONGEST, *longest)
+    assert number == 0 and len(made) == LONGEST and write_sheet(LONGEST - 1, *longest) == (9, [])
 
 
 def check_runs(lines):
@@ -385,6 +403,37 @@ def check_reach(lines):
     assert all(asked[key] == ({5} if size > 65536 else {0, 2}) for key, size in LISTINGS.items())
 
 
+def check_zeros(lines):
+    for order, values in VALUES.items():
+        for zero, value in enumerate(values):
+            assert do_value(zero, len(order), *order) == [0, value] and do_of_value(zero, len(order), value) == [0, *record([*order])]
+            assert {on(f"value {zero}", order), f"of_value {zero} {len(order)} {value}"} <= lines
+    for line, expected in {**VALUED, **ZEROED}.items():
+        assert answer(line).split(" : ")[1] == expected and line in lines
+    # "any k steps add k to the value modulo n!, and each value [..] belongs to exactly one order", "for a zero of any order": counted by steps from the zero, which
+    # lead through all orders; any k from any order is then from one value to another
+    for n in range(2, 6):
+        for start in permutations(range(1, n + 1)):
+            met = cycle([*start])
+            assert len({*map(tuple, met)}) == factorial(n) and [value_from([*start], order) for order in met] == [*range(factorial(n))]
+            assert all(order_from([*start], value) == order for value, order in enumerate(met))
+    # "used for these two": the readings have every order and every value of 3 cells; the zero orders of each n; and values at their ends
+    for zero in (0, 1):
+        assert all(on(f"value {zero}", order) in lines for order in permutations([1, 2, 3])) and {f"of_value {zero} 3 {value}" for value in range(6)} <= lines
+        assert {f"of_value {zero} {n} {factorial(n)}" for n in (2, 3, 20)} | {f"of_value {zero} 20 {value}" for value in (factorial(20) - 1, 2**64 - 1)} <= lines
+    for n in range(2, 21):
+        rising = [*range(1, n + 1)]
+        assert zero_order(n, 0) == rank_zero(n) and zero_order(n, 1) == rising and value_on(0, rising) == rank(rising)
+        assert (value_on(1, rank_zero(n)) + rank(rising)) % factorial(n) == 0 and {on("value 1", rank_zero(n)), f"of_value 1 {n} 0"} <= lines
+    # on levels: calls with k steps in all add k to the value
+    for n in range(2, 21):
+        levels, total = [7 * cell % 23 * 100 for cell in range(n)], 0
+        first = [value_on(zero, read(levels)) for zero in (0, 1)]
+        for k in (1, 0, 30, 200):
+            levels, total = count_up(levels, k)[0], total + k
+            assert [value_on(zero, read(levels)) for zero in (0, 1)] == [(value + total) % factorial(n) for value in first]
+
+
 text = Path(__file__).with_name("stdin").read_text()
 assert len(text) <= 65536, "what the program reads"
 lines = text.splitlines()
@@ -397,5 +446,6 @@ check_runs({*lines})
 check_charges({*lines})
 check_bands({*lines})
 check_reach({*lines})
+check_zeros({*lines})
 for line in lines:
     print(answer(line))

@@ -1,6 +1,6 @@
 """A model of document 01's rules on lists, as the paper words them, with the storing rule of document 02's request 1 in place of its own, the writing of request 2,
-the charge of request 3, the bands of request 4 and the listing of request 6; nothing of the code. `expected.py` checks it against what documents 01, 02 and 001
-print; the sheets of `sheets` are worked and written by it too."""
+the charge of request 3, the bands of request 4, the listing of request 6 and the zeros of request 7; nothing of the code. `expected.py` checks it against what
+documents 01, 02 and 001 print; the sheets of `sheets` are worked and written by it too."""
 from itertools import chain, product, repeat
 from math import factorial, perm, prod
 
@@ -305,8 +305,40 @@ def do_symbols(m, *levels):
     return words[1:]
 
 
+# The maker's new zero, document 02, request 7. A zero is a number on a line: 0 is old, 1 is new, and there is no other.
+
+def zero_order(n, zero):
+    """On the new zero "the count starts at the order [1,2,...,n]", on the old at "the special order that document 01 starts from", which has rank 0."""
+    return [*range(1, n + 1)] if zero else unrank(n, 0)
+
+
+def value_from(start, order):
+    """The rank less the rank of the zero order, modulo n!; any order can be the zero."""
+    return (rank(order) - rank(start)) % factorial(len(order))
+
+
+def order_from(start, value):
+    """The order that has this value: its rank is as much above that of the zero order, modulo n!."""
+    return unrank(len(start), (rank(start) + value) % factorial(len(start)))
+
+
+def value_on(zero, order):
+    return value_from(zero_order(len(order), zero), order)
+
+
+def do_value(zero, n, *names):
+    number = lowest(**record_reasons(n, row([*names])), value=zero not in (0, 1))
+    return [number, 0 if number else value_on(zero, [*names])]
+
+
+def do_of_value(zero, n, value):
+    # size decides past n = 20, where n! is not worked out
+    number = lowest(size=not sized(n), value=zero not in (0, 1) or n <= 20 and value >= factorial(n))
+    return [number, *record([] if number else order_from(zero_order(n, zero), value))]
+
+
 # Writing a sheet, document 02, request 2: "the first met in the sheet's sequence" decides. A held group is n and its levels; a held command is its kind, its group
-# number, and then k, or n and a row of names, or m and s.
+# number, and then k, or n and a row of names, or m and s. Beside the groups stand their zeros.
 
 class Fault(Exception):
     """Its argument is the number of the first fault met."""
@@ -341,13 +373,19 @@ def command_bytes(sizes, kind, g, *held):
     return [kind, g] + [byte for number in held for byte in spelled(number, {1: 4, 3: 8}[kind])]
 
 
-def sheet_bytes(group_count, groups, command_count, commands):
+def zeros_bytes(zeros):
+    """Request 7: "a count in one byte, 1 to G, then the numbers of the groups on the new zero, strictly rising", "when a group is on the new zero"."""
+    new = [g for g, zero in enumerate(zeros) if zero == 1]
+    return [len(new), *new] if new else []
+
+
+def sheet_bytes(group_count, groups, command_count, commands, zeros):
     """The counts are judged before what they count is looked at."""
     refuse("sheet", not 1 <= group_count <= 64)
     made = [group_count] + [byte for group in groups for byte in group_bytes(*group)]
     refuse("sheet", command_count > 1000)
     sizes = [n for n, _ in groups]
-    return made + spelled(command_count, 2) + [byte for command in commands for byte in command_bytes(sizes, *command)]
+    return made + spelled(command_count, 2) + [byte for command in commands for byte in command_bytes(sizes, *command)] + zeros_bytes(zeros)
 
 
 def write_sheet(room, *held):
@@ -375,14 +413,15 @@ def held_command(left):
 
 
 def do_write(room, *numbers):
-    """A held sheet: the count of groups and each, the count of commands and each; where the line ends, zeros. Its bytes go to the start of the lent ones, and the
-    others keep their 9."""
+    """A held sheet: the count of groups and each, the count of commands and each, and for each group 1 where it is on the new zero; what the line lacks is 0. The
+    bytes go to the start of the lent ones, and the others keep their 9."""
     left = chain(numbers, repeat(0))
     group_count = next(left)
     groups = [held_group(left) for _ in range(min(group_count, 64))]
     command_count = next(left)
     commands = [held_command(left) for _ in range(min(command_count, 1000))]
-    number, made = write_sheet(room, group_count, groups, command_count, commands)
+    zeros = [next(left) for _ in groups]
+    number, made = write_sheet(room, group_count, groups, command_count, commands, zeros)
     return [number, len(made), "|", *made, *[9] * (room - len(made))]
 
 

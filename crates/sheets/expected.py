@@ -2,22 +2,24 @@
 """The sheets of the program `sheets` and what it must write for them, worked out from documents 01 and 02 alone.
 
 The sheets are made below: `data/` gets their bytes, `args` their names, and `stdout` each name and the text after it; some go to `sheets/` at
-the root as examples. The text comes from a reader of bytes that follows document 01, "The bench sheet", and from the rules in the model of
-`readings`. After the text of a sheet without fault, a line w says that it was written again from what was read: the number, the length, and 1 where the bytes are
-equal. Nothing of the code is used.
+the root as examples. The text comes from a reader of bytes that follows document 01, "The bench sheet", and document 02, request 7, and from the rules in
+the model of `readings`. After the text of a sheet without fault, a line w says that it was written again from what was read: the number, the length, and 1
+where the bytes are equal. Nothing of the code is used.
 
     python3 crates/sheets/expected.py
 """
 import sys
+from functools import cache
+from itertools import product
 from math import factorial
 from pathlib import Path
 
 HERE = Path(__file__).parent
 sys.path.insert(0, str(HERE.parent / "readings"))
-from model import REASONS, Fault, do_count_up, do_rewrite, do_store, rank, read, row, spelled, unrank, write_sheet
+from model import REASONS, Fault, do_count_up, do_rewrite, do_store, order_from, rank, read, row, spelled, unrank, value_on, write_sheet
 
 
-# Document 01's reader: the first fault met decides.
+# The reader: the first fault met decides.
 
 
 SIZE, TIE, SHEET = REASONS["size"], REASONS["tie"], REASONS["sheet"]
@@ -61,13 +63,25 @@ def read_command(left, groups):
     return kind, g, [left.number(length) for length in {1: [4], 3: [8, 8]}[kind]]
 
 
+def read_zeros(left, groups):
+    """Of each group 1 where it is on the new zero. Request 7: "a count in one byte, 1 to G, then the numbers of the groups on the new zero, strictly rising"; each is
+    below G."""
+    zeros, least = [0] * len(groups), 0
+    for _ in range(left.within(1, 1, len(groups))):
+        g = left.within(1, least, len(groups) - 1)
+        zeros[g], least = 1, g + 1
+    return zeros
+
+
 def read_sheet(data):
+    """A sheet that ends with its commands "has old zeros only"."""
     left = Bytes(data)
     groups = [read_group(left) for _ in range(left.within(1, 1, 64))]
     commands = [read_command(left, groups) for _ in range(left.within(2, 0, 1000))]
+    zeros = read_zeros(left, groups) if left.left else [0] * len(groups)
     if left.left:
         raise Fault(SHEET)
-    return groups, commands
+    return groups, commands, zeros
 
 
 def work(kind, held, levels):
@@ -85,8 +99,13 @@ MET = set()  # each kind of command with each number that it got
 
 def text(data):
     """The lines that the program prints for a sheet."""
+    return worked(bytes(data))
+
+
+@cache
+def worked(data):
     try:
-        groups, commands = read_sheet(data)
+        groups, commands, zeros = read_sheet(data)
     except Fault as fault:
         return [["s", *fault.args]]
     lines = []
@@ -95,15 +114,15 @@ def text(data):
         groups[g] = rest[:len(groups[g])]
         lines.append(["c", place, number, pushes])
         MET.add((kind, number))
-    return lines + [["g", g, rank(read(levels)), *levels] for g, levels in enumerate(groups)]
+    return lines + [["g", g, value_on(zero, read(levels)), *levels] for g, (levels, zero) in enumerate(zip(groups, zeros))]
 
 
 def written(data):
     """The line of a sheet without fault, which is written, from the groups and commands that were read, where there is room for any. Document 02, request 2:
     "an accepted sheet, read and written, must have equal bytes"."""
-    groups, commands = read_sheet(data)
+    groups, commands, zeros = read_sheet(data)
     held = [(kind, g, len(rest), row(rest)) if kind == 2 else (kind, g, *rest) for kind, g, rest in commands]
-    number, made = write_sheet(24627, len(groups), [(len(levels), levels) for levels in groups], len(commands), held)
+    number, made = write_sheet(24692, len(groups), [(len(levels), levels) for levels in groups], len(commands), held, zeros)
     return ["w", number, len(made), int(made == data)]
 
 
@@ -130,8 +149,9 @@ def joined(parts):
     return [byte for part in parts for byte in part]
 
 
-def sheet(groups, commands=()):
-    return [len(groups)] + joined(groups) + spelled(len(commands), 2) + joined(commands)
+def sheet(groups, commands=(), new=()):
+    """With a third section where groups are on the new zero, which are told by their numbers."""
+    return [len(groups)] + joined(groups) + spelled(len(commands), 2) + joined(commands) + ([len(new), *new] if new else [])
 
 
 def spread(n, start=0):
@@ -144,6 +164,11 @@ def scattered(n, i):
     return (i + 1) * 1_000_003 * 998_244_353 % factorial(n)
 
 
+def along(order, top):
+    """Levels without a gap, of this order."""
+    return [top - order.index(cell) for cell in range(1, len(order) + 1)]
+
+
 def shuffled(n, i):
     return unrank(n, scattered(n, i))
 
@@ -151,10 +176,19 @@ def shuffled(n, i):
 PAPER = [1, 3, 3, 0, 1, 0, 2, 0, 3, 0, 1, 0, 4, 0, 0, 0, 2, 0, 3, 1, 2, 3, 0, 3, 0, 0, 0, 0, 0, 0, 0, 3, 0, 0, 0, 0, 0, 0, 0]
 PAPER_TEXT = "c 1 0 4\nc 2 0 1\nc 3 5 0\ng 0 5 7 6 8\n"
 
+# Document 02, request 7: "[1,2,3,4] is 10 on the old and 0 on the new, and [1,3,2] is 0 and 2", each order twice, the second time on the new zero
+VALUES = [4, 4, 4, 0, 3, 0, 2, 0, 1, 0, 4, 4, 0, 3, 0, 2, 0, 1, 0, 3, 3, 0, 1, 0, 2, 0, 3, 3, 0, 1, 0, 2, 0, 0, 0, 2, 1, 3]
+VALUES_TEXT = "g 0 10 4 3 2 1\ng 1 0 4 3 2 1\ng 2 0 3 1 2\ng 3 2 3 1 2\n"
+
 TWO, THREE, FOUR = group(1, 2), group(3, 1, 2), group(4, 3, 2, 1)
 FULL = [group(*spread(20, 100 * g)) for g in range(64)]
-LONGEST = sheet(FULL, [rewrite(i % 64, *shuffled(20, i)) for i in range(1000)])
+REWRITES = [rewrite(i % 64, *shuffled(20, i)) for i in range(1000)]
+ALL = [64, *range(64)]  # the longest third section
+OLD_LONGEST, LONGEST = sheet(FULL, REWRITES), sheet(FULL, REWRITES) + ALL
 LAST = factorial(20)
+NAMES = [*range(1, 21)]
+BY_TURNS = [command for i in range(40)
+            for command in (count(0, 1 + i % 7), store(1, 60, i), count(1, i), store(0, 720, 17 * i), store(2, 6840, 171 * i), count(2, 3 * i))]
 
 GOOD = {
     "paper": PAPER,
@@ -168,6 +202,7 @@ GOOD = {
     "thousand-stores": sheet(FULL, [store(i % 64, LAST, scattered(20, i)) for i in range(1000)]),
     "thousand-on-one": sheet([FOUR], [count(0, 1 + i % 24) for i in range(1000)]),
     "longest": LONGEST,
+    "longest-on-old-zeros": OLD_LONGEST,
     "levels-at-their-ends": sheet([group(0, 65535), group(65535, 0, 1), group(*range(65516, 65536))], [count(0, 0), count(2, 0)]),
     "every-size": sheet([group(*spread(n)) for n in range(2, 21)],
                         [command for g, n in enumerate(range(2, 21))
@@ -181,8 +216,7 @@ GOOD = {
     "two-hundred-and-fifty-six-commands": sheet([THREE], [count(0, 1)] * 256),
     # groups side by side
     "by-turns": sheet([group(*spread(6)), group(*spread(5, 50)), group(*spread(20, 9))],
-                      [command for i in range(40)
-                       for command in (count(0, 1 + i % 7), store(1, 60, i), count(1, i), store(0, 720, 17 * i), store(2, 6840, 171 * i), count(2, 3 * i))]),
+                      BY_TURNS),
     "rewritten-and-counted": sheet([group(*spread(4)), group(*spread(7, 20))],
                                    [command for i in range(30) for command in (rewrite(i % 2, *shuffled(4 + i % 2 * 3, i)), count(i % 2, i))]),
     "a-round-of-four": sheet([FOUR], [count(0, 1)] * 24 + [count(0, 24), count(0, 23)]),
@@ -207,9 +241,43 @@ GOOD = {
     "all-refused": sheet([group(65535, 2)], [count(0, 1), rewrite(0, 2, 1), rewrite(0, 2, 2), store(0, 2, 1), store(0, 2, 2), store(0, 3, 0)]),
     # document 02, request 1: symbol 6 of 12 stands on [3,1,2,4], at the cap, where symbol 1 needs a push, and where it was just stored
     "store-no-pushes": sheet([group(9, 4, 65535, 0), FOUR], [store(0, 12, 6), store(0, 12, 1), store(1, 12, 6), store(1, 12, 6)]),
+    # request 7: the values that it prints; document 01's sheet on the new zero; no command, one group of several, all
+    "both-zeros": VALUES,
+    "new-zero": PAPER + [1, 0],
+    "new-zero-no-commands": sheet([THREE], [], [0]),
+    "new-zero-first": sheet([THREE, FOUR, TWO], [count(0, 3), count(1, 3)], [0]),
+    "new-zero-between": sheet([THREE, FOUR, TWO], [count(0, 3), count(1, 3)], [1]),
+    "new-zero-last": sheet([THREE, FOUR, TWO], [count(0, 3), count(1, 3)], [2]),
+    "new-zeros-about-an-old-one": sheet([FOUR, FOUR, FOUR], [count(0, 3), count(1, 3), count(2, 3)], [0, 2]),
+    "new-zeros-all-of-three": sheet([FOUR, THREE, TWO], [count(0, 3), count(1, 3), count(2, 3)], [0, 1, 2]),
+    # 64 groups: all new, the first, the last, every other one; the longest section and no command
+    "new-zeros-all-of-64": sheet([group(*spread(2 + g % 19, g)) for g in range(64)],
+                                 [count(63, 5), rewrite(63, *shuffled(8, 5)), store(18, 380, 7), count(0, 7)], [*range(64)]),
+    "new-zero-first-of-64": sheet([FOUR] * 64, [count(g, g) for g in range(64)], [0]),
+    "new-zero-last-of-64": sheet([FOUR] * 64, [count(g, g) for g in range(64)], [63]),
+    "new-zeros-every-other": sheet([FOUR] * 64, [count(g, g) for g in range(64)], [*range(1, 64, 2)]),
+    "new-zeros-no-commands": sheet(FULL, [], [*range(64)]),
+    # every size on both zeros: counted, rewritten and stored to; as it is, [1,2,..,n]; and on the new zero the order of the last value, which one step takes to 0
+    "every-size-on-both-zeros": sheet([group(*spread(n)) for n in range(2, 21) for _ in range(2)],
+                                      [command for g in range(38) for n in [2 + g // 2]
+                                       for command in (count(g, n), rewrite(g, *shuffled(n, n)), store(g, factorial(n), factorial(n) - 1), count(g, n + 1))],
+                                      [*range(1, 38, 2)]),
+    "rising-on-both-zeros": sheet([group(*range(n, 0, -1)) for n in range(2, 21) for _ in range(2)], [], [*range(1, 38, 2)]),
+    "last-values-on-the-new-zero": sheet([group(*along(order_from(NAMES[:n], factorial(n) - 1), 40)) for n in range(2, 21) for _ in range(2)],
+                                         [count(g, 1) for g in range(0, 38, 2)], [*range(38)]),
+    # the work is the same, and the values differ
+    "by-turns-on-both-zeros": sheet([group(*spread(6)), group(*spread(5, 50)), group(*spread(20, 9))], BY_TURNS, [0, 2]),
+    "a-round-of-four-on-both-zeros": sheet([FOUR, FOUR], [count(g, 1) for _ in range(24) for g in range(2)] + [count(1, 24), count(1, 23)], [1]),
+    "two-cells-on-both-zeros": sheet([TWO, TWO], [count(0, 1), count(1, 1), store(1, 2, 1), rewrite(1, 1, 2)], [1]),
+    "twenty-cells-on-the-new-zero": sheet([FULL[0]], [count(0, 1000), store(0, LAST, LAST - 1), store(0, LAST, 0), rewrite(0, *range(20, 0, -1))], [0]),
+    "refused-on-the-new-zero": sheet([THREE, group(65535, 2)],
+                                     [rewrite(0, 1, 1, 1), count(0, 4), store(0, 7, 0), rewrite(0, 3, 1, 2), count(1, 1), rewrite(1, 2, 1), store(1, 2, 1),
+                                      count(0, 2)], [0, 1]),
+    # bytes left over by names of five on a group of three: a count of 1 and group 2. The rewrite is muddle
+    "names-left-over-are-a-section": sheet([THREE, FOUR, group(*spread(5))], [rewrite(0, 3, 4, 5, 1, 2)]),
 }
 
-EXAMPLES = ["paper", "every-size", "by-turns", "refused-then-done", "thousand-counts", "longest", "tie-last", "one-byte-after"]
+EXAMPLES = ["paper", "every-size", "by-turns", "refused-then-done", "both-zeros", "thousand-counts", "longest", "tie-last", "one-byte-after"]
 
 NO_COMMANDS = spelled(0, 2)
 ONE = spelled(1, 2)
@@ -218,7 +286,8 @@ ONE = spelled(1, 2)
 # A sheet with a command of each kind, by its parts: an early end is tried at every byte of it.
 PARTS = [("groups", [2]), ("first-n", [3]), ("first-levels", THREE[1:]), ("last-n", [4]), ("last-levels", FOUR[1:]), ("commands", spelled(4, 2)),
          ("kind-1", [1]), ("group", [0]), ("k", spelled(4, 4)), ("kind-2", [2]), ("rewrite-group", [1]), ("names", [4, 3, 2, 1]),
-         ("kind-3", [3]), ("store-group", [1]), ("m", spelled(24, 8)), ("s", spelled(7, 8)), ("last-kind", [1]), ("last-group", [1]), ("last-k", spelled(9, 4))]
+         ("kind-3", [3]), ("store-group", [1]), ("m", spelled(24, 8)), ("s", spelled(7, 8)), ("last-kind", [1]), ("last-group", [1]), ("last-k", spelled(9, 4)),
+         ("new-zeros", [2]), ("new-zero", [0]), ("last-new-zero", [1])]
 
 
 def cuts():
@@ -228,6 +297,75 @@ def cuts():
             made[f"end-in-{word}-{kept}"] = before + part[:kept]
         before = before + part
     return made
+
+
+CUTS = cuts()
+GOOD["end-before-new-zeros"] = CUTS.pop("end-in-new-zeros-0")  # the third section may be left out
+
+# Sheets to which a third section is added: of three groups, without a command and with one, and of 64.
+THREE_GROUPS = sheet([THREE, FOUR, TWO])
+ONE_COMMAND = sheet([THREE, FOUR, TWO], [count(2, 1)])
+SIXTY_FOUR = sheet([TWO] * 64)
+
+# Sheets that end with their commands, and bytes after these that are no third section.
+AFTER = {
+    "one-byte-after": (PAPER, [0]),
+    "one-byte-after-no-commands": (sheet([THREE]), [0]),
+    "a-command-after": (sheet([THREE], [count(0, 1)]), count(0, 1)),
+    "one-byte-after-all-commands": (OLD_LONGEST, [0]),
+    "much-after-all-commands": (OLD_LONGEST, [1] * 6000),
+    # its count, whatever stands after it
+    "new-zeros-0": (THREE_GROUPS, [0]),
+    "new-zeros-0-after-a-command": (ONE_COMMAND, [0]),
+    "new-zeros-0-with-one": (ONE_COMMAND, [0, 1]),
+    "new-zeros-0-then-a-section": (THREE_GROUPS, [0, 1, 0]),
+    "new-zeros-2-of-1": (PAPER, [2, 0, 0]),
+    "new-zeros-4-of-3": (THREE_GROUPS, [4, 0, 1, 2, 3]),
+    "new-zeros-4-of-3-with-three": (ONE_COMMAND, [4, 0, 1, 2]),
+    "new-zeros-65-of-64": (SIXTY_FOUR, [65, *range(65)]),
+    "new-zeros-64-of-1": (PAPER, ALL),
+    "new-zeros-255": (ONE_COMMAND, [255, *range(255)]),
+    "new-zeros-255-end": (PAPER, [255]),
+    # an early end after the count and after each number
+    "new-zeros-end-after-1": (PAPER, [1]),
+    "new-zeros-end-after-3": (THREE_GROUPS, [3]),
+    "new-zeros-end-after-first": (THREE_GROUPS, [3, 0]),
+    "new-zeros-end-after-second": (THREE_GROUPS, [3, 0, 1]),
+    "new-zeros-end-after-3-and-a-command": (ONE_COMMAND, [3]),
+    "new-zeros-end-before-last-of-64": (SIXTY_FOUR, ALL[:-1]),
+    "longest-cut-after-count": (OLD_LONGEST, ALL[:1]),
+    "longest-cut-before-last": (OLD_LONGEST, ALL[:-1]),
+    # numbers that don't rise: equal or falling, in the first two and in the last two
+    "new-zeros-equal": (ONE_COMMAND, [2, 1, 1]),
+    "new-zeros-equal-0": (THREE_GROUPS, [2, 0, 0]),
+    "new-zeros-equal-last": (THREE_GROUPS, [3, 0, 2, 2]),
+    "new-zeros-falling": (ONE_COMMAND, [2, 2, 1]),
+    "new-zeros-falling-to-0": (THREE_GROUPS, [2, 1, 0]),
+    "new-zeros-falling-last": (THREE_GROUPS, [3, 0, 2, 1]),
+    "new-zeros-falling-by-more": (THREE_GROUPS, [3, 1, 2, 0]),
+    "new-zeros-falling-in-64": (SIXTY_FOUR, [64, *range(62), 63, 62]),
+    "new-zeros-equal-last-of-64": (SIXTY_FOUR, [64, *range(63), 62]),
+    # numbers that are no group's
+    "new-zero-1-of-1": (PAPER, [1, 1]),
+    "new-zero-3-of-3": (ONE_COMMAND, [1, 3]),
+    "new-zero-3-of-3-last": (THREE_GROUPS, [3, 0, 1, 3]),
+    "new-zero-3-of-3-first": (THREE_GROUPS, [2, 3, 4]),
+    "new-zero-64-of-64": (SIXTY_FOUR, [1, 64]),
+    "new-zero-64-of-64-last": (SIXTY_FOUR, [64, *range(1, 65)]),
+    "new-zero-255": (PAPER, [1, 255]),
+    "new-zero-255-last": (THREE_GROUPS, [2, 2, 255]),
+    # bytes after the last number: any byte, a number that would rise, a second section
+    "one-byte-after-new-zeros": (PAPER, [1, 0, 0]),
+    "one-number-after-new-zeros": (ONE_COMMAND, [1, 1, 2]),
+    "a-group-number-after-all": (THREE_GROUPS, [3, 0, 1, 2, 3]),
+    "a-second-section": (PAPER, [1, 0, 1, 0]),
+    "a-second-section-of-others": (ONE_COMMAND, [1, 1, 1, 2]),
+    "a-command-after-new-zeros": (ONE_COMMAND, [1, 1] + count(0, 1)),
+    "one-byte-after-the-longest": (OLD_LONGEST, ALL + [0]),
+    "one-number-after-the-longest": (OLD_LONGEST, ALL + [64]),
+    "a-second-section-after-the-longest": (OLD_LONGEST, ALL + ALL),
+    "much-after-the-longest": (OLD_LONGEST, ALL + [1] * 6000),
+}
 
 
 # Faulty sheets, by the number that document 01 gives them.
@@ -261,6 +399,7 @@ FAULTY = {
         "tie-then-count": [1] + group(7, 7) + spelled(1001, 2),
         "tie-then-kind": [1] + group(7, 7) + ONE + [9, 0],
         "tie-and-too-long": [1] + group(7, 7) + [1] * 30000,
+        "tie-then-new-zeros": sheet([group(7, 7)]) + [9, 9],
     },
     SHEET: {
         # count of groups
@@ -295,25 +434,50 @@ FAULTY = {
         # names of another group's n leave bytes over, or too few
         "names-of-four-on-three": sheet([THREE, FOUR], [rewrite(0, 4, 3, 2, 1)]),
         "names-of-three-on-four": sheet([THREE, FOUR], [rewrite(1, 3, 2, 1)]),
-        # bytes after the last command
-        "one-byte-after": PAPER + [0],
-        "one-byte-after-no-commands": sheet([THREE]) + [0],
-        "a-command-after": sheet([THREE], [count(0, 1)]) + count(0, 1),
-        "one-byte-after-the-longest": LONGEST + [0],
-        "much-after-the-longest": LONGEST + [1] * 6000,
-        **cuts(),
+        **{name: before + after for name, (before, after) in AFTER.items()},
+        **CUTS,
     },
 }
 
 
+def printed(data):
+    return "".join(" ".join(map(str, line)) + "\n" for line in text(data))
+
+
+def check_zeros():
+    """Document 02, request 7."""
+    assert printed(VALUES) == VALUES_TEXT and len(LONGEST) == 24692
+    for made in GOOD.values():
+        groups, commands, zeros = read_sheet(made)
+        new = [g for g, zero in enumerate(zeros) if zero]
+        # "A sheet without it has old zeros only": the section is all that its groups' zeros add. Without it the commands and the levels are the same, and the g line
+        # has the rank; "its value is the rank less the rank of its zero order, modulo n!"
+        without = made[:-1 - len(new)] if new else made
+        assert made == without + ([len(new), *new] if new else []) and read_sheet(without) == (groups, commands, [0] * len(groups))
+        for new_line, old_line in zip(text(made), text(without), strict=True):
+            word, place, number, *levels = old_line
+            if word == "g":
+                n = len(levels)
+                assert number == rank(read(levels))
+                number = (number - (rank([*range(1, n + 1)]) if zeros[place] else 0)) % factorial(n)
+            assert new_line == [word, place, number, *levels]
+    # what is after the commands and is no section is a fault: all rows of at most 4 of these bytes, of which seven are sections of three groups
+    sections = [[len(new), *new] for new in ([0], [1], [2], [0, 1], [0, 2], [1, 2], [0, 1, 2])]
+    for length in range(1, 5):
+        for after in product([0, 1, 2, 3, 4, 255], repeat=length):
+            assert (text(ONE_COMMAND + [*after]) == [["s", SHEET]]) == ([*after] not in sections)
+    assert all(text(before)[0][0] != "s" and not any(read_sheet(before)[2]) for before, _ in AFTER.values())
+
+
 def main():
-    assert "".join(" ".join(map(str, line)) + "\n" for line in text(PAPER)) == PAPER_TEXT
-    assert len(LONGEST) == 24627
+    assert printed(PAPER) == PAPER_TEXT
+    check_zeros()
     assert not any(text(made)[0][0] == "s" for made in [*GOOD.values(), joined(part for _, part in PARTS)])
     assert all(text(made) == [["s", number]] for number, faulty in FAULTY.items() for made in faulty.values())
     assert all(written(made) == ["w", 0, len(made), 1] for made in GOOD.values())
     assert MET == {(1, 0), (1, 6), (2, 0), (2, 3), (2, 6), (3, 0), (3, 5), (3, 6)}, "each refusal of each command is met"
     sheets = {**GOOD, **{name: made for faulty in FAULTY.values() for name, made in faulty.items()}}
+    assert len(sheets) == len(GOOD) + sum(map(len, FAULTY.values())), "each name is of one sheet"
     data = HERE / "data"
     data.mkdir(exist_ok=True)
     for old in data.iterdir():

@@ -19,6 +19,9 @@ int main(void) {
     }
     printf("hours: rank %" PRIu64 "\n", tm_rank(standing.permutation).rank);
 
+    /* They stand at [1, 2, 3, 4], from which a group on the new zero counts. */
+    printf("hours on the new zero: value %" PRIu64 "\n", tm_value(standing.permutation, TM_NEW_ZERO).value);
+
     /* Refused: the highest level would pass 65,535. Nothing is changed. */
     show("count up by 65,530", tm_count_up(hours, 4, 65530), hours);
 

@@ -13,7 +13,7 @@ pub use sheet::{Action, Command, Group};
 /// The version of this package, as the header's `TM_VERSION` says it.
 pub const VERSION: &str = env!("CARGO_PKG_VERSION");
 /// The longest bench sheet. A buffer of so many bytes has room for any.
-pub const SHEET_BYTES: usize = 24_627;
+pub const SHEET_BYTES: usize = 24_692;
 /// A buffer of so many bytes has room for the text of any sheet.
 pub const TEXT_BYTES: usize = 31_344;
 
@@ -31,7 +31,7 @@ pub enum Reason {
     Muddle = 3,
     /// Two levels are equal.
     Tie = 4,
-    /// A rank, place, m, symbol or r is outside its range, a lowest level is above its highest, or a listing would exceed 65,536 bytes.
+    /// A rank, value, place, m, symbol or r is outside its range, a lowest level is above its highest, or a listing would exceed 65,536 bytes.
     Value = 5,
     /// The highest level plus the job's pushes exceeds 65,535.
     Ceiling = 6,
@@ -66,6 +66,17 @@ impl fmt::Display for Reason {
 }
 
 impl error::Error for Reason {}
+
+/// The zero of a group (document 02): the permutation from which its value is counted.
+#[repr(u8)]
+#[derive(Clone, Copy, Debug, Default, PartialEq, Eq)]
+pub enum Zero {
+    /// The permutation of rank 0, so that the value is the rank.
+    #[default]
+    Old = 0,
+    /// `[1, 2, ..., n]`.
+    New = 1,
+}
 
 impl Permutation {
     /// The record of these names, highest charge first. More than 20 names have none; all else is for the jobs to judge.
@@ -134,6 +145,20 @@ pub fn rank(permutation: Permutation) -> Result<u64, Reason> {
 /// Refused: Size, Value.
 pub fn unrank(n: usize, rank: u64) -> Result<Permutation, Reason> {
     let answer = raw::unrank(n, rank);
+    given(answer.number, answer.permutation)
+}
+
+/// The value on a zero, 0 to n! - 1: the rank less the rank of the zero's permutation, modulo n!. k steps add k to it, modulo n!.
+/// Refused: Size, Muddle.
+pub fn value(permutation: Permutation, zero: Zero) -> Result<u64, Reason> {
+    let answer = raw::value(permutation, zero as u8);
+    given(answer.number, answer.value)
+}
+
+/// The permutation of n cells that has this value on a zero.
+/// Refused: Size, Value.
+pub fn permutation_of_value(n: usize, value: u64, zero: Zero) -> Result<Permutation, Reason> {
+    let answer = raw::permutation_of_value(n, value, zero as u8);
     given(answer.number, answer.permutation)
 }
 
@@ -209,7 +234,8 @@ pub fn bench(sheet: &[u8], text: &mut [u8]) -> Result<usize, Reason> {
 
 /// Writes the bench sheet of these groups and commands to the first bytes of `out`, and gives their number; the later ones keep their values. [`SHEET_BYTES`] are
 /// always enough. [`bench()`] reads the same groups and commands from it. Document 01's example has the group `Group::new(&[3, 1, 2])?` and the commands
-/// `Command::count(0, 4)`, `Command::rewrite(0, Permutation::new(&[3, 1, 2])?)` and `Command::store(0, 3, 3)`: 39 bytes.
+/// `Command::count(0, 4)`, `Command::rewrite(0, Permutation::new(&[3, 1, 2])?)` and `Command::store(0, 3, 3)`: 39 bytes. With `.on(Zero::New)` after its group
+/// it has 41.
 /// It needs 256 KiB of stack.
 /// Refused, by the first that is met: Sheet, there is no group or more than 64; of each group in turn Size, then Tie; Sheet, there are more than 1,000 commands; of
 /// each command in turn Sheet, its group is not there, and of a rewrite Fit, its n is not the group's, then Muddle, a name past n is not 0; after all others Paper,

@@ -10,7 +10,7 @@ pub struct Permutation {
     pub cells: [u8; 20],
 }
 
-/// What [`push`], [`unrank`], [`read`] and [`read_bands`] answer.
+/// What [`push`], [`unrank`], [`permutation_of_value`], [`read`] and [`read_bands`] answer.
 #[repr(C)]
 #[derive(Clone, Copy, Debug, PartialEq, Eq)]
 pub struct Permuted {
@@ -40,6 +40,14 @@ pub struct Digits {
 pub struct Ranked {
     pub number: u8,
     pub rank: u64,
+}
+
+/// What [`value`] answers.
+#[repr(C)]
+#[derive(Clone, Copy, Debug, PartialEq, Eq)]
+pub struct Valued {
+    pub number: u8,
+    pub value: u64,
 }
 
 /// What the jobs that push on levels answer: how many pushes they did, and the charge that these spent.
@@ -89,6 +97,7 @@ const _: () = assert!(size_of::<Permuted>() == 40 && offset_of!(Permuted, permut
 const _: () = assert!(size_of::<Placed>() == 16 && offset_of!(Placed, place) == 8);
 const _: () = assert!(size_of::<Digits>() == 21 && offset_of!(Digits, row) == 1);
 const _: () = assert!(size_of::<Ranked>() == 16 && offset_of!(Ranked, rank) == 8);
+const _: () = assert!(size_of::<Valued>() == 16 && offset_of!(Valued, value) == 8);
 const _: () = assert!(size_of::<Pushes>() == 12 && offset_of!(Pushes, pushes) == 4 && offset_of!(Pushes, charge) == 8);
 const _: () = assert!(size_of::<Reached>() == 16 && offset_of!(Reached, permutations) == 8);
 const _: () = assert!(size_of::<Symbol>() == 16 && offset_of!(Symbol, symbol) == 8);
@@ -105,6 +114,8 @@ mod library {
         pub fn tm_digits(permutation: Permutation) -> Digits;
         pub fn tm_rank(permutation: Permutation) -> Ranked;
         pub fn tm_unrank(n: usize, rank: u64) -> Permuted;
+        pub fn tm_value(permutation: Permutation, zero: u8) -> Valued;
+        pub fn tm_permutation_of_value(n: usize, value: u64, zero: u8) -> Permuted;
         pub fn tm_read(levels: *const u16, n: usize) -> Permuted;
         pub fn tm_push_level(levels: *mut u16, n: usize, place: usize) -> Pushes;
         pub fn tm_count_up(levels: *mut u16, n: usize, k: u32) -> Pushes;
@@ -120,6 +131,8 @@ mod library {
             sizes_length: usize,
             levels: *const u16,
             levels_length: usize,
+            zeros: *const u8,
+            zeros_length: usize,
             kinds: *const u8,
             kinds_length: usize,
             groups: *const u8,
@@ -154,6 +167,14 @@ pub fn rank(permutation: Permutation) -> Ranked {
 
 pub fn unrank(n: usize, rank: u64) -> Permuted {
     unsafe { library::tm_unrank(n, rank) }
+}
+
+pub fn value(permutation: Permutation, zero: u8) -> Valued {
+    unsafe { library::tm_value(permutation, zero) }
+}
+
+pub fn permutation_of_value(n: usize, value: u64, zero: u8) -> Permuted {
+    unsafe { library::tm_permutation_of_value(n, value, zero) }
 }
 
 pub fn read(levels: &[u16]) -> Permuted {
@@ -196,13 +217,16 @@ pub fn bench(sheet: &[u8], text: &mut [u8]) -> Printed {
     unsafe { library::tm_bench(sheet.as_ptr(), sheet.len(), text.as_mut_ptr(), text.len()) }
 }
 
-pub fn write_sheet(sizes: &[usize], levels: &[u16], kinds: &[u8], groups: &[u8], numbers: &[u64], names: &[u8], out: &mut [u8]) -> Written {
+#[allow(clippy::too_many_arguments)] // one list for each field
+pub fn write_sheet(sizes: &[usize], levels: &[u16], zeros: &[u8], kinds: &[u8], groups: &[u8], numbers: &[u64], names: &[u8], out: &mut [u8]) -> Written {
     unsafe {
         library::tm_write_sheet(
             sizes.as_ptr(),
             sizes.len(),
             levels.as_ptr(),
             levels.len(),
+            zeros.as_ptr(),
+            zeros.len(),
             kinds.as_ptr(),
             kinds.len(),
             groups.as_ptr(),

@@ -1,20 +1,26 @@
 //! Groups and commands held in memory, and the lists in which they cross.
 use crate::raw::{self, Permutation, Written};
-use crate::Reason;
+use crate::{Reason, Zero};
 
-/// A group of a sheet: the first n levels, entry by cell name. What stands past them is not looked at.
+/// A group of a sheet: the first n levels, entry by cell name, and the zero that its value is counted from. What stands past the n levels is not looked at.
 #[derive(Clone, Copy, Debug, PartialEq, Eq)]
 pub struct Group {
     pub n: usize,
     pub levels: [u16; 20],
+    pub zero: Zero,
 }
 
 impl Group {
-    /// The group of these levels. More than 20 have none; all else is for the writing to judge.
+    /// The group of these levels, on the old zero. More than 20 have none; all else is for the writing to judge.
     pub fn new(levels: &[u16]) -> Result<Group, Reason> {
         let mut row = [0; 20];
         row.get_mut(..levels.len()).ok_or(Reason::Size)?.copy_from_slice(levels);
-        Ok(Group { n: levels.len(), levels: row })
+        Ok(Group { n: levels.len(), levels: row, zero: Zero::Old })
+    }
+
+    /// The same levels on this zero.
+    pub fn on(self, zero: Zero) -> Group {
+        Group { zero, ..self }
     }
 }
 
@@ -58,6 +64,7 @@ const COMMANDS: usize = 1000 + 1;
 struct Rows {
     sizes: [usize; GROUPS],
     levels: [[u16; 20]; GROUPS],
+    zeros: [u8; GROUPS],
     kinds: [u8; COMMANDS],
     groups: [u8; COMMANDS],
     numbers: [[u64; 2]; COMMANDS],
@@ -68,6 +75,7 @@ impl Rows {
     fn put_group(&mut self, row: usize, group: &Group) {
         self.sizes[row] = group.n;
         self.levels[row] = group.levels;
+        self.zeros[row] = group.zero as u8;
     }
 
     fn put_command(&mut self, row: usize, command: &Command) {
@@ -94,6 +102,7 @@ pub(crate) fn write(groups: &[Group], commands: &[Command], out: &mut [u8]) -> W
     let mut rows = Rows {
         sizes: [0; GROUPS],
         levels: [[0; 20]; GROUPS],
+        zeros: [0; GROUPS],
         kinds: [0; COMMANDS],
         groups: [0; COMMANDS],
         numbers: [[0; 2]; COMMANDS],
@@ -103,5 +112,5 @@ pub(crate) fn write(groups: &[Group], commands: &[Command], out: &mut [u8]) -> W
     groups[..g].iter().enumerate().for_each(|(row, group)| rows.put_group(row, group));
     commands[..c].iter().enumerate().for_each(|(row, command)| rows.put_command(row, command));
     let (levels, numbers, names) = (rows.levels.as_flattened(), rows.numbers.as_flattened(), rows.names.as_flattened());
-    raw::write_sheet(&rows.sizes[..g], levels, &rows.kinds[..c], &rows.groups[..c], numbers, names, out)
+    raw::write_sheet(&rows.sizes[..g], levels, &rows.zeros, &rows.kinds[..c], &rows.groups[..c], numbers, names, out)
 }

@@ -59,6 +59,8 @@ impl Cross {
         self.successor(record);
         self.digits(record);
         self.rank(record);
+        self.value(record, 0);
+        self.value(record, 1);
         let n = record.n.clamp(2, 20) as u16;
         let levels: Vec<u16> = (0..n).map(|cell| 3 * (cell * 7 % 23)).collect();
         self.rewrite(&levels, record, &fill(usize::from(n) - 1));

@@ -1,5 +1,5 @@
 //! One comparing function per exported function: the raw answer, the `Result` and every lent list afterwards, each beside the model's.
-use crate::held::{held, Rows};
+use crate::held::{held, zero, Rows};
 use crate::lent::{Entry, Lent};
 use model::Spent;
 use std::fmt::Debug;
@@ -112,6 +112,26 @@ impl Cross {
     pub fn unrank(&mut self, n: usize, rank: u64) {
         let safe = turretmedlar::unrank(n, rank).map(of_library);
         self.agree(&("unrank", n, rank), model::unrank(n, rank).map(of_model), permuted(raw::unrank(n, rank)), safe);
+    }
+
+    /// The zero by its number, and by its name where it has one.
+    pub fn value(&mut self, record: Permutation, number: u8) {
+        let case = ("value", record, number);
+        let answer = raw::value(record, number);
+        let (raw, expected) = ((answer.number, answer.value), model::value_by_number(&twin(record), number));
+        match model::Zero::from_number(number) {
+            Ok(named) => self.agree(&case, expected, raw, turretmedlar::value(record, zero(named))),
+            Err(_) => self.agree_raw(&case, expected.map_err(|reason| reason as u8), raw),
+        }
+    }
+
+    pub fn permutation_of_value(&mut self, n: usize, value: u64, number: u8) {
+        let case = ("permutation_of_value", n, value, number);
+        let (raw, expected) = (permuted(raw::permutation_of_value(n, value, number)), model::permutation_by_number(n, value, number).map(of_model));
+        match model::Zero::from_number(number) {
+            Ok(named) => self.agree(&case, expected, raw, turretmedlar::permutation_of_value(n, value, zero(named)).map(of_library)),
+            Err(_) => self.agree_raw(&case, expected.map_err(|reason| reason as u8), raw),
+        }
     }
 
     pub fn read(&mut self, levels: &[u16]) {

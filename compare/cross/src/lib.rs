@@ -9,6 +9,6 @@ mod random;
 pub mod sheet;
 
 pub use cross::{spent, twin, Cross};
-pub use held::{held, Rows};
+pub use held::{held, zero, Rows};
 pub use lent::{fill, Lent};
 pub use random::Random;

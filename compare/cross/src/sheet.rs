@@ -27,6 +27,14 @@ pub fn sheet(groups: &[Vec<u16>], commands: &[Vec<u8>]) -> Vec<u8> {
     bytes
 }
 
+/// The third section: the groups on the new zero, after their true count. Where there are none, there is no section.
+pub fn section(numbers: &[u8]) -> Vec<u8> {
+    if numbers.is_empty() {
+        return vec![];
+    }
+    [&[numbers.len() as u8], numbers].concat()
+}
+
 /// Document 01's example, byte by byte.
 pub const EXAMPLE: [u8; 39] = [1, 3, 3, 0, 1, 0, 2, 0, 3, 0, 1, 0, 4, 0, 0, 0, 2, 0, 3, 1, 2, 3, 0, 3, 0, 0, 0, 0, 0, 0, 0, 3, 0, 0, 0, 0, 0, 0, 0];
 
@@ -35,18 +43,19 @@ pub fn example(levels: [u16; 3]) -> Vec<u8> {
     sheet(&[levels.to_vec()], &[count_up(0, 4), rewrite(0, &[3, 1, 2]), store(0, 3, 3)])
 }
 
-/// Small sheets with all three kinds, near the ceiling, so that no damage to them makes a long run.
-pub fn small_sheets() -> [Vec<u8>; 2] {
+/// Small sheets, near the ceiling, so that no damage to them makes a long run: two with all three kinds, and one with a third section.
+pub fn small_sheets() -> [Vec<u8>; 3] {
     let groups = [vec![65_500, 65_501], vec![65_200, 65_100, 65_300, 4]];
     let commands = [store(1, 24, 17), count_up(1, 30), rewrite(0, &[2, 1]), rewrite(1, &[3, 1, 4, 2]), count_up(0, 33), store(0, 2, 1)];
-    [example([65_400, 65_200, 65_333]), sheet(&groups, &commands)]
+    let zeros = [sheet(&[vec![65_500, 65_501], vec![65_300, 65_100], vec![65_501, 65_500]], &[count_up(1, 5)]), section(&[1, 2])].concat();
+    [example([65_400, 65_200, 65_333]), sheet(&groups, &commands), zeros]
 }
 
-/// The longest sheet: 64 groups of 20 cells and 1,000 rewrites.
+/// The longest sheet: 64 groups of 20 cells, 1,000 rewrites, and every group on the new zero.
 pub fn longest(random: &mut Random) -> Vec<u8> {
     let groups: Vec<Vec<u16>> = (0..64).map(|_| random.group(20)).collect();
     let commands: Vec<Vec<u8>> = (0..1000).map(|command| rewrite(command % 64, &random.names(20))).collect();
-    sheet(&groups, &commands)
+    [sheet(&groups, &commands), section(&(0..64).collect::<Vec<u8>>())].concat()
 }
 
 /// The sheets that the program `sheets` works, good and faulty.
@@ -80,11 +89,17 @@ fn random_command(random: &mut Random, group: usize, n: usize) -> Vec<u8> {
     }
 }
 
+/// The numbers of none of the groups, of some or of all.
+fn random_zeros(random: &mut Random, groups: usize) -> Vec<u8> {
+    let odds = random.pick(&[0, 0, 1, 2, 4]);
+    (0..groups as u8).filter(|_| random.index(4) < odds).collect()
+}
+
 /// A sheet without fault.
 pub fn random_sheet(random: &mut Random, groups: usize, commands: usize) -> Vec<u8> {
     let sizes: Vec<usize> = (0..groups).map(|_| 2 + random.index(19)).collect();
     let groups: Vec<Vec<u16>> = sizes.iter().map(|&n| random.group(n)).collect();
     let numbers: Vec<usize> = (0..commands).map(|_| random.index(groups.len())).collect();
     let commands: Vec<Vec<u8>> = numbers.iter().map(|&group| random_command(random, group, sizes[group])).collect();
-    sheet(&groups, &commands)
+    [sheet(&groups, &commands), section(&random_zeros(random, groups.len()))].concat()
 }

@@ -1,6 +1,6 @@
 //! Whole bench sheets, good and damaged, with text buffers of every length.
-use cross::cases::pairs;
-use cross::sheet::{count_up, example, longest, of_the_repository, random_sheet, sheet, small_sheets, store, EXAMPLE};
+use cross::cases::{lists, pairs};
+use cross::sheet::{count_up, example, longest, of_the_repository, random_sheet, section, sheet, small_sheets, store, EXAMPLE};
 use cross::{fill, Cross, Random};
 use turretmedlar::{SHEET_BYTES, TEXT_BYTES};
 
@@ -27,6 +27,56 @@ fn the_example_of_document_01() {
     assert_eq!(example([3, 1, 2]), EXAMPLE);
     assert_eq!(work(&mut cross, &EXAMPLE), b"c 1 0 4\nc 2 0 1\nc 3 5 0\ng 0 5 7 6 8\n");
     cross.met(&[0]);
+}
+
+/// Document 02: "[1,2,3,4] is 10 on the old and 0 on the new, and [1,3,2] is 0 and 2."
+#[test]
+fn both_zeros_on_one_sheet() {
+    let mut cross = Cross::default();
+    let [four, three] = [vec![4, 3, 2, 1], vec![3, 1, 2]];
+    let groups = [four.clone(), four, three.clone(), three];
+    let text = b"g 0 10 4 3 2 1\ng 1 0 4 3 2 1\ng 2 0 3 1 2\ng 3 2 3 1 2\n";
+    assert_eq!(work(&mut cross, &[sheet(&groups, &[]), section(&[1, 3])].concat()), text);
+    assert_eq!(work(&mut cross, &[&EXAMPLE[..], &section(&[0])].concat()), b"c 1 0 4\nc 2 0 1\nc 3 5 0\ng 0 1 7 6 8\n");
+    cross.met(&[0]);
+}
+
+/// Sections of up to five of these bytes: good are a true count and numbers that rise.
+#[test]
+fn every_short_section_of_three_groups() {
+    let mut cross = Cross::default();
+    let before = sheet(&[vec![7, 9], vec![3, 1, 2], vec![65_501, 65_500]], &[count_up(1, 2)]);
+    let sections = (0..=5).flat_map(|length| lists(&[0, 1, 2, 3], length)).chain((1..=3).flat_map(|length| lists(&[0, 1, 4, 63, 64, 65, 128, 255], length)));
+    let mut good: Vec<Vec<u8>> = sections.filter(|section| work(&mut cross, &[&before[..], section].concat())[0] != b's').collect();
+    good.sort_unstable();
+    good.dedup();
+    assert_eq!(good, [&[][..], &[1, 0], &[1, 1], &[1, 2], &[2, 0, 1], &[2, 0, 2], &[2, 1, 2], &[3, 0, 1, 2]]);
+    cross.met(&[0, 8]);
+}
+
+/// Of 64 groups, with each byte of the section a little lower or higher, or any; and with each number left out.
+#[test]
+fn sections_of_64_groups_damaged() {
+    let (mut cross, mut random) = (Cross::default(), Random::seeded(412));
+    let groups: Vec<Vec<u16>> = (0..64).map(|group| vec![group, 700, 100]).collect();
+    let before = sheet(&groups, &[]);
+    for numbers in [(0..64).collect(), (0..64).step_by(2).collect(), vec![63], vec![5, 40, 60]] {
+        let section = section(&numbers);
+        for at in 0..section.len() {
+            for byte in [section[at].wrapping_sub(1), section[at], section[at] + 1, 0, 63, 64, 65, 255, random.number() as u8] {
+                let mut damaged = section.clone();
+                damaged[at] = byte;
+                work(&mut cross, &[&before[..], &damaged].concat());
+            }
+            work(&mut cross, &[&before[..], &section[..at]].concat());
+            work(&mut cross, &[&before[..], &section[..at], &section[at + 1..]].concat());
+        }
+        for at in 1..section.len() {
+            let others = [&[section[0] - 1], &section[1..at], &section[at + 1..]].concat();
+            work(&mut cross, &[&before[..], &others].concat());
+        }
+    }
+    cross.met(&[0, 8]);
 }
 
 #[test]
@@ -64,7 +114,7 @@ fn a_byte_deleted_doubled_or_inserted_at_every_place() {
             }
         }
     }
-    cross.met(&[1, 4, 8]);
+    cross.met(&[0, 1, 4, 8]);
 }
 
 #[test]
@@ -162,6 +212,8 @@ fn the_longest_sheet_and_longer_ones() {
         work_in(&mut cross, &[&sheet[..], &vec![0; more]].concat(), about);
     }
     work(&mut cross, &sheet[..SHEET_BYTES - 1]);
+    work(&mut cross, &sheet[..SHEET_BYTES - 64]);
+    work_in(&mut cross, &sheet[..SHEET_BYTES - 65], about);
     cross.met(&[0, 2, 8]);
 }
 

@@ -1,8 +1,8 @@
 //! Held sheets written, by types and by lists, right and wrong, and what was written read again.
 use cross::cases::{pairs, permutations, record, CEILING, WRONG_SIZES};
-use cross::sheet::{longest, of_the_repository, random_sheet, small_sheets, EXAMPLE};
-use cross::{fill, twin, Cross, Random, Rows};
-use model::{Command, Group, Job, Permutation, Sheet};
+use cross::sheet::{longest, of_the_repository, random_sheet, section, small_sheets, EXAMPLE};
+use cross::{fill, held, twin, Cross, Random, Rows};
+use model::{Command, Group, Job, Permutation, Sheet, Zero};
 use turretmedlar::SHEET_BYTES;
 
 fn count_up(group: u8, k: u32) -> Command {
@@ -18,9 +18,9 @@ fn store(group: u8, m: u64, symbol: u64) -> Command {
     Command { group, job: Job::Store { m, symbol } }
 }
 
-/// Two groups and a command of each kind on each.
+/// Two groups, the second on the new zero, and a command of each kind on each.
 fn small() -> Sheet {
-    let groups = [&[3, 1, 2][..], &[CEILING, 258]].map(Group::from_levels);
+    let groups = [Group::from_levels(&[3, 1, 2]), Group { zero: Zero::New, ..Group::from_levels(&[CEILING, 258]) }];
     let first = [rewrite(0, 3, &[3, 1, 2]), count_up(0, 0x0403_0201), store(0, 6, 5)];
     let second = [rewrite(1, 2, &[2, 1]), count_up(1, u32::MAX), store(1, u64::MAX, u64::MAX)];
     Sheet { groups: groups.to_vec(), commands: [first, second].concat() }
@@ -28,7 +28,7 @@ fn small() -> Sheet {
 
 /// More bytes than the sheet has; enough that one that is refused could be written.
 fn enough(groups: usize, commands: usize) -> Vec<u8> {
-    fill(5 + 41 * groups.min(65) + 22 * commands.min(1001))
+    fill(5 + 42 * groups.min(65) + 22 * commands.min(1001))
 }
 
 /// Writes a held sheet. What was written is read again as the same, but for the levels past n.
@@ -84,6 +84,57 @@ fn the_example_of_document_01() {
 }
 
 #[test]
+fn that_example_on_the_new_zero() {
+    let (mut cross, mut out) = (Cross::default(), [9; 45]);
+    let bytes = [&EXAMPLE[..], &[1, 0]].concat();
+    let (groups, commands) = held(&model::read_sheet(&bytes).unwrap());
+    assert_eq!(groups, [turretmedlar::Group::new(&[3, 1, 2]).unwrap().on(turretmedlar::Zero::New)]);
+    assert_eq!(turretmedlar::write_sheet(&groups, &commands, &mut out), Ok(41));
+    assert_eq!(out[..], [&bytes[..], &[9; 4]].concat());
+    write_again(&mut cross, &bytes, |length| (0..length + 9).collect());
+    cross.met(&[0, 9]);
+}
+
+/// "The writer writes the section when a group is on the new zero": into each room from that of the sheet without the section.
+#[test]
+fn every_choice_of_zeros_on_six_groups() {
+    let mut cross = Cross::default();
+    let mut sheet = small();
+    sheet.groups = [&[3, 1, 2][..], &[CEILING, 258], &[4, 3, 2, 1], &[9, 7], &[0, CEILING], &[1, 2, 3]].map(Group::from_levels).to_vec();
+    let without = write(&mut cross, &sheet).expect("a sheet without fault");
+    for choice in 0..64 {
+        let new = |number: u8| choice >> number & 1 == 1;
+        (0..).zip(&mut sheet.groups).for_each(|(number, group)| group.zero = if new(number) { Zero::New } else { Zero::Old });
+        let bytes = [&without[..], &section(&(0..6).filter(|&number| new(number)).collect::<Vec<u8>>())].concat();
+        assert_eq!(write(&mut cross, &sheet).as_ref(), Ok(&bytes));
+        for room in without.len() - 1..=bytes.len() + 1 {
+            let written = cross.write_sheet(&sheet, &fill(room));
+            assert_eq!(written.as_deref(), if room < bytes.len() { Err(&9) } else { Ok(&bytes[..]) }, "{choice:b} in {room} bytes");
+        }
+    }
+    cross.met(&[0, 9]);
+}
+
+/// A zero that is neither is value, of as many groups as there are, but not past them.
+#[test]
+fn zeros_that_are_neither() {
+    let mut cross = Cross::default();
+    for groups in [1, 2, 3, 63, 64, 65, 66, 257] {
+        let rows = Rows::of(&Sheet { groups: vec![Group::from_levels(&[5, 700]); groups], commands: vec![count_up(0, 1)] });
+        for at in [0, groups / 2, groups - 1] {
+            for value in [2, 3, 128, 129, 254, 255] {
+                let mut wrong = rows.clone();
+                wrong.zeros[at] = value;
+                assert_eq!(write_rows(&mut cross, &wrong), Err(5), "{value} of group {at} of {groups}");
+            }
+        }
+        let past = Rows { zeros: [&rows.zeros[..], &[255, 2]].concat(), ..rows.clone() };
+        assert_eq!(write_rows(&mut cross, &past), write_rows(&mut cross, &rows));
+    }
+    cross.met(&[0, 5, 8]);
+}
+
+#[test]
 fn the_sheets_of_the_repository() {
     let mut cross = Cross::default();
     of_the_repository().iter().for_each(|bytes| write_again(&mut cross, bytes, about));
@@ -116,6 +167,16 @@ fn the_longest_sheet() {
     cross.met(&[0, 2, 8, 9]);
 }
 
+#[test]
+fn random_sheets_written_again() {
+    let (mut cross, mut random) = (Cross::default(), Random::seeded(509));
+    for most in (0..300).map(|round| [3, 20, 64][round % 3]) {
+        let (groups, commands) = (1 + random.index(most), random.index(most));
+        write_again(&mut cross, &random_sheet(&mut random, groups, commands), |length| vec![length - 1, length]);
+    }
+    cross.met(&[0, 9]);
+}
+
 /// Worked, they give the text of the model.
 #[test]
 fn random_sheets_written_and_worked() {
@@ -143,13 +204,14 @@ fn lists_of_bytes_of_every_length() {
     cross.met(&[0, 9]);
 }
 
-/// Groups of two and of three cells with all sequences of their levels, with ties, and of no sheet's size.
+/// Groups of two and of three cells with all sequences of their levels, with ties, and of no sheet's size; every other one on the new zero.
 fn small_groups() -> Vec<Group> {
     let sequences = permutations(3).into_iter().map(|names| names.iter().map(|&name| [0, 1, 258][usize::from(name) - 1]).collect::<Vec<u16>>());
     let ties = [[7, 7, 1], [7, 1, 7], [1, 7, 7]].map(|levels| levels.to_vec());
     let pairs = [[0, 258], [258, 0], [0, 0]].map(|levels| levels.to_vec());
     let wrong = [1, 21].map(|n| Group { n, ..Group::from_levels(&[2, 1]) });
-    sequences.chain(ties).chain(pairs).map(|levels| Group::from_levels(&levels)).chain(wrong).collect()
+    let groups = sequences.chain(ties).chain(pairs).map(|levels| Group::from_levels(&levels)).chain(wrong);
+    groups.zip([Zero::New, Zero::Old].into_iter().cycle()).map(|(group, zero)| Group { zero, ..group }).collect()
 }
 
 /// Rewrites of one to three names, with names past them too, count-ups and stores, on groups 0 to 2.
@@ -181,13 +243,16 @@ fn every_small_sheet() {
 /// The number of a fault, and how to make it.
 type Fault = (u8, fn(&mut Rows));
 
-/// Faults of `small`, in the sequence in which they are met: a list too short before all, then those of the sheet.
-const FAULTS: [Fault; 19] = [
+/// Faults of `small`, in the sequence in which they are met: a list too short before all, then a zero that is neither, then those of the sheet.
+const FAULTS: [Fault; 22] = [
     (2, |rows| rows.levels.truncate(20 * rows.sizes.len() - 1)),
+    (2, |rows| rows.zeros.truncate(rows.sizes.len() - 1)),
     (2, |rows| rows.groups.truncate(rows.kinds.len() - 1)),
     (2, |rows| rows.numbers.truncate(2 * rows.kinds.len() - 1)),
     (2, |rows| rows.names.truncate(20 * rows.kinds.len() - 1)),
-    (8, |rows| (rows.sizes.resize(65, 2), rows.levels.resize(1300, 0)).0),
+    (5, |rows| rows.zeros[0] = 2),
+    (5, |rows| rows.zeros[1] = 255),
+    (8, |rows| (rows.sizes.resize(65, 2), rows.levels.resize(1300, 0), rows.zeros.resize(65, 1)).0),
     (1, |rows| rows.sizes[0] = 21),
     (4, |rows| rows.levels[2] = rows.levels[0]),
     (1, |rows| rows.sizes[1] = 1),
@@ -221,7 +286,7 @@ fn the_first_fault_met_decides() {
             assert_eq!(cross.write_rows(&rows, &fill(room)).err(), first.or(Some(9)), "{choice:b} in {room} bytes");
         }
     }
-    cross.met(&[0, 1, 2, 3, 4, 8, 9]);
+    cross.met(&[0, 1, 2, 3, 4, 5, 8, 9]);
 }
 
 /// The list over and over, to a length.
@@ -233,8 +298,12 @@ fn resized<T: Copy>(list: &[T], length: usize) -> Vec<T> {
 fn lists_of_every_length() {
     let (mut cross, rows) = (Cross::default(), Rows::of(&small()));
     for (sizes, levels) in pairs(5, 90) {
-        let rows = Rows { sizes: resized(&rows.sizes, sizes), levels: resized(&rows.levels, levels), ..rows.clone() };
+        let rows = Rows { sizes: resized(&rows.sizes, sizes), levels: resized(&rows.levels, levels), zeros: vec![1; sizes], ..rows.clone() };
         assert_eq!(write_rows(&mut cross, &rows) == Err(2), levels < 20 * sizes, "{sizes} groups with {levels} levels");
+    }
+    for (sizes, zeros) in pairs(5, 6) {
+        let rows = Rows { sizes: resized(&rows.sizes, sizes), levels: resized(&rows.levels, 80), zeros: vec![1; zeros], ..rows.clone() };
+        assert_eq!(write_rows(&mut cross, &rows) == Err(2), zeros < sizes, "{sizes} groups with {zeros} zeros");
     }
     for ((kinds, groups), numbers) in pairs(5, 6).flat_map(|counts| (0..10).map(move |numbers| (counts, numbers))) {
         for names in [0, 1, 19, 20, 21, 39, 40, 41, 59, 60, 61, 79, 80, 81] {
@@ -257,6 +326,7 @@ fn what_is_not_looked_at() {
         let bytes = write(&mut cross, &sheet).expect("a sheet without fault");
         let mut rows = Rows::of(&sheet);
         (0..random.index(50)).for_each(|_| rows.levels.push(random.number() as u16));
+        (0..random.index(50)).for_each(|_| rows.zeros.push(random.number() as u8));
         (0..random.index(50)).for_each(|_| rows.groups.push(random.number() as u8));
         (0..random.index(50)).for_each(|_| rows.numbers.push(random.number()));
         (0..random.index(50)).for_each(|_| rows.names.push(random.number() as u8));
@@ -283,6 +353,7 @@ fn each_entry_of_small_lists_set_to_many_values() {
         changed(&mut cross, |rows| rows.kinds[at] = value as u8);
         changed(&mut cross, |rows| rows.groups[at] = value as u8);
     }
+    pairs(rows.zeros.len(), 256).for_each(|(at, value)| changed(&mut cross, |rows| rows.zeros[at] = value as u8));
     pairs(rows.names.len(), 256).for_each(|(at, value)| changed(&mut cross, |rows| rows.names[at] = value as u8));
     for value in (0..25).chain(WRONG_SIZES).chain([256 + 3, 1 << 32 | 2]) {
         (0..rows.sizes.len()).for_each(|at| changed(&mut cross, |rows| rows.sizes[at] = value));
@@ -294,7 +365,7 @@ fn each_entry_of_small_lists_set_to_many_values() {
     for (at, value) in pairs(rows.levels.len(), 260).chain((0..rows.levels.len()).map(|at| (at, usize::from(CEILING)))) {
         changed(&mut cross, |rows| rows.levels[at] = value as u16);
     }
-    cross.met(&[0, 1, 2, 3, 4, 8]);
+    cross.met(&[0, 1, 2, 3, 4, 5, 8]);
 }
 
 #[test]
@@ -303,7 +374,8 @@ fn counts_and_group_numbers_about_their_ends() {
     for groups in (0..=66_usize).chain([128, 255, 256, 257, 320, 65_537]) {
         for group in [0, groups / 2, groups.saturating_sub(1), groups, groups + 1, 255].map(|group| group.min(255) as u8) {
             for command in [count_up(group, 1), store(group, 1, 0), rewrite(group, 2, &[9, 9])] {
-                let sheet = Sheet { groups: vec![Group::from_levels(&[5, 700]); groups], commands: vec![command] };
+                let zero = if groups % 2 == 0 { Zero::New } else { Zero::Old };
+                let sheet = Sheet { groups: vec![Group { zero, ..Group::from_levels(&[5, 700]) }; groups], commands: vec![command] };
                 assert_eq!(write(&mut cross, &sheet).is_ok(), (1..=64).contains(&groups) && usize::from(group) < groups);
             }
         }
@@ -334,14 +406,15 @@ fn sizes_and_ties_in_each_of_several_groups() {
 fn damage(random: &mut Random, sheet: &mut Sheet) {
     let (group, command) = (random.index(sheet.groups.len()), random.index(sheet.commands.len()));
     let size = random.pick(&[1, 2, 3, 20, 21, 256 + 3, usize::MAX]);
-    match (random.index(8), sheet.commands.get_mut(command)) {
+    match (random.index(9), sheet.commands.get_mut(command)) {
         (0, _) => sheet.groups[group].n = size,
         (1, _) => sheet.groups[group].levels.swap(random.index(20), random.index(20)),
         (2, _) => sheet.groups[group].levels[random.index(20)] = sheet.groups[group].levels[random.index(20)],
         (3, _) => sheet.groups.truncate(1 + group),
         (4, _) if random.index(20) == 0 => sheet.groups.resize(64 + random.index(3), Group::from_levels(&[1, 2])),
         (5, _) if random.index(20) == 0 => sheet.commands.resize(999 + random.index(3), count_up(0, 1)),
-        (6, Some(command)) => command.group = random.pick(&[command.group.wrapping_add(1), 63, 64, 255]),
+        (6, _) => sheet.groups[group].zero = Zero::New,
+        (7, Some(command)) => command.group = random.pick(&[command.group.wrapping_add(1), 63, 64, 255]),
         (_, Some(Command { job: Job::Rewrite { target }, .. })) => {
             let past = random.index(20);
             target.cells[past] = random.pick(&[0, 1, 255]);
@@ -381,17 +454,18 @@ fn random_lists_damaged() {
         let (groups, commands) = (1 + random.index(4), random.index(8));
         let mut rows = Rows::of(&random_held(&mut random, groups, commands));
         for _ in 0..=random.index(3) {
-            match random.index(6) {
+            match random.index(7) {
                 0 => damage_list(&mut random, &mut rows.sizes, &[0, 1, 2, 20, 21, 258, usize::MAX]),
                 1 => damage_list(&mut random, &mut rows.levels, &[0, 1, CEILING]),
-                2 => damage_list(&mut random, &mut rows.kinds, &[0, 1, 2, 3, 4, 255]),
-                3 => damage_list(&mut random, &mut rows.groups, &[0, 1, 2, 64, 255]),
-                4 => damage_list(&mut random, &mut rows.numbers, &[0, 2, 20, 258, u32::MAX as u64, 1 << 32, u64::MAX]),
+                2 => damage_list(&mut random, &mut rows.zeros, &[0, 1, 2, 255]),
+                3 => damage_list(&mut random, &mut rows.kinds, &[0, 1, 2, 3, 4, 255]),
+                4 => damage_list(&mut random, &mut rows.groups, &[0, 1, 2, 64, 255]),
+                5 => damage_list(&mut random, &mut rows.numbers, &[0, 2, 20, 258, u32::MAX as u64, 1 << 32, u64::MAX]),
                 _ => damage_list(&mut random, &mut rows.names, &[0, 1, 20, 255]),
             }
         }
         let room = random.index(300);
         let _ = cross.write_rows(&rows, &fill(room));
     }
-    cross.met(&[0, 1, 2, 3, 4, 8, 9]);
+    cross.met(&[0, 1, 2, 3, 4, 5, 8, 9]);
 }

@@ -1,4 +1,4 @@
-//! A model of document 01, with requests 1 to 4 and 6 of document 02, in plain Rust: the other side of differential tests, and the plain side of benchmarks.
+//! A model of document 01, with requests 1 to 4, 6 and 7 of document 02, in plain Rust: the other side of differential tests, and the plain side of benchmarks.
 //!
 //! It is written from the sentences of these documents alone, with lists, sorting and searching, and keeps no table.
 //! Every input is legal. A refused job gives its reason and leaves all lent lists as they were.
@@ -15,6 +15,7 @@ mod sheet;
 mod symbols;
 mod text;
 mod writer;
+mod zero;
 
 #[cfg(test)]
 mod tests;
@@ -29,3 +30,4 @@ pub use sheet::{Command, Group, Job, Sheet};
 pub use symbols::{read_symbol, store};
 pub use text::bench;
 pub use writer::write_sheet;
+pub use zero::{permutation_by_number, permutation_of_value, value, value_by_number, Zero};

@@ -3,7 +3,8 @@
 use crate::levels::names_by_level;
 use crate::permutations::Permutation;
 use crate::reason::{check_size, refuse_if, Reason};
-use crate::sheet::{check_commands, check_groups, group_of, Command, Group, Job, Sheet};
+use crate::sheet::{check_commands, check_groups, check_new_zeros, group_of, Command, Group, Job, Sheet};
+use crate::zero::Zero;
 
 /// The bytes not yet read.
 struct Bytes<'a>(&'a [u8]);
@@ -27,8 +28,13 @@ impl<'a> Bytes<'a> {
 /// "The sheet is checked from its first byte, and the first fault met decides."
 pub fn read_sheet(bytes: &[u8]) -> Result<Sheet, Reason> {
     let mut bytes = Bytes(bytes);
-    let groups = read_groups(&mut bytes)?;
+    let mut groups = read_groups(&mut bytes)?;
     let commands = read_commands(&mut bytes, &groups)?;
+    // "The sheet may end with a third section." "A sheet without it has old zeros only."
+    if !bytes.0.is_empty() {
+        read_new_zeros(&mut bytes, &mut groups)?;
+    }
+    // "Bytes after the last of them, is sheet."
     refuse_if(!bytes.0.is_empty(), Reason::Sheet)?;
     Ok(Sheet { groups, commands })
 }
@@ -69,4 +75,20 @@ fn read_command(bytes: &mut Bytes, groups: &[Group]) -> Result<Command, Reason> 
         _ => Job::Store { m: bytes.number(8)?, symbol: bytes.number(8)? },
     };
     Ok(Command { group, job })
+}
+
+/// Document 02, request 7: "A count in one byte, 1 to G, then the numbers of the groups on the new zero, strictly rising." "A count here outside its range, numbers
+/// that don't rise [..] is sheet." Document 01: so is a "group number outside its range".
+fn read_new_zeros(bytes: &mut Bytes, groups: &mut [Group]) -> Result<(), Reason> {
+    let count = bytes.number(1)? as usize;
+    check_new_zeros(count, groups)?;
+    let mut last = None;
+    for _ in 0..count {
+        let number = bytes.number(1)? as u8;
+        refuse_if(last.is_some_and(|last| number <= last), Reason::Sheet)?;
+        group_of(groups, number)?;
+        groups[usize::from(number)].zero = Zero::New;
+        last = Some(number);
+    }
+    Ok(())
 }

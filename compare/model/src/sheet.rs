@@ -2,6 +2,7 @@
 
 use crate::permutations::{padded, Permutation};
 use crate::reason::{refuse_if, Reason};
+use crate::zero::Zero;
 
 /// "One of three kinds"
 #[derive(Clone, Copy, Debug, PartialEq, Eq)]
@@ -18,17 +19,19 @@ pub struct Command {
     pub job: Job,
 }
 
-/// n and a row of twenty levels, "entry by cell name", as handed in; it may be wrong. The places past n are on no sheet.
+/// n and a row of twenty levels, "entry by cell name", as handed in; it may be wrong. The places past n are on no sheet. Document 02, request 7: "A group now carries
+/// its zero."
 #[derive(Clone, Copy, Debug, PartialEq, Eq)]
 pub struct Group {
     pub n: usize,
     pub levels: [u16; 20],
+    pub zero: Zero,
 }
 
 impl Group {
-    /// At most 20 levels.
+    /// At most 20 levels, on the old zero.
     pub fn from_levels(levels: &[u16]) -> Group {
-        Group { n: levels.len(), levels: padded(levels) }
+        Group { n: levels.len(), levels: padded(levels), zero: Zero::Old }
     }
 
     /// "Its charge is a lent list of 16-bit charge levels"; n is checked already.
@@ -56,6 +59,11 @@ pub(crate) fn check_groups(count: usize) -> Result<(), Reason> {
 /// "Count in two bytes, 0 to 1,000"
 pub(crate) fn check_commands(count: usize) -> Result<(), Reason> {
     refuse_if(count > 1000, Reason::Sheet)
+}
+
+/// "A count in one byte, 1 to G", of the groups on the new zero
+pub(crate) fn check_new_zeros(count: usize, groups: &[Group]) -> Result<(), Reason> {
+    refuse_if(!(1..=groups.len()).contains(&count), Reason::Sheet)
 }
 
 /// "The group byte (0 to G - 1)"

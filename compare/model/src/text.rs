@@ -1,11 +1,11 @@
 //! The bench program: the work of a sheet and its printed text.
 
 use crate::levels::{count_up, rewrite, sorted_names, Spent};
-use crate::permutations::rank_of_names;
 use crate::reader::read_sheet;
 use crate::reason::Reason;
 use crate::sheet::{Job, Sheet};
 use crate::symbols::store;
+use crate::zero::value_from;
 
 /// The whole printed text of a bench sheet. "A faulty sheet gives one line: s, number." "Only a sheet without fault starts work."
 pub fn bench(sheet: &[u8]) -> Vec<u8> {
@@ -28,7 +28,7 @@ fn line(text: &mut Vec<u8>, mark: u8, numbers: impl IntoIterator<Item = u64>) {
 }
 
 /// "Each command has: c, its place from 1, number, pushes done. Then each group has: g, group number, rank, levels by name."
-/// Document 02, request 3: "The printed lines keep their fields", so the charge is in none.
+/// Document 02, request 3: "The printed lines keep their fields", so the charge is in none. Request 7: "The g line prints the value", where the rank was.
 fn work(text: &mut Vec<u8>, sheet: Sheet) {
     let Sheet { mut groups, commands } = sheet;
     for (place, command) in (1..).zip(&commands) {
@@ -39,9 +39,9 @@ fn work(text: &mut Vec<u8>, sheet: Sheet) {
         line(text, b'c', [place, number, u64::from(pushes)]);
     }
     for (number, group) in (0..).zip(&groups) {
-        let rank = rank_of_names(&sorted_names(group.charge()));
+        let value = value_from(&group.zero.names(group.n), &sorted_names(group.charge()));
         let levels = group.charge().iter().map(|&level| u64::from(level));
-        line(text, b'g', [number, rank].into_iter().chain(levels));
+        line(text, b'g', [number, value].into_iter().chain(levels));
     }
 }
 

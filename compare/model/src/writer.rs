@@ -1,9 +1,10 @@
-//! A bench sheet, to its bytes: document 02, request 2.
+//! A bench sheet, to its bytes: document 02, request 2, and request 7 for the third section.
 
 use crate::levels::names_by_level;
 use crate::permutations::Permutation;
 use crate::reason::{check_size, refuse_if, Reason};
 use crate::sheet::{check_commands, check_groups, group_of, Command, Group, Job, Sheet};
+use crate::zero::Zero;
 
 /// "From groups and commands held in memory, into a lent list of bytes." "When done, the job gives the sheet's length, and bytes past it keep their values."
 /// "9 paper, when the lent list is shorter than the sheet; it comes after all others."
@@ -26,6 +27,7 @@ fn spelled(sheet: &Sheet) -> Result<Vec<u8>, Reason> {
     for command in &sheet.commands {
         write_command(&mut bytes, &sheet.groups, command)?;
     }
+    write_new_zeros(&mut bytes, &sheet.groups);
     Ok(bytes)
 }
 
@@ -66,4 +68,13 @@ fn names_for<'a>(group: &Group, target: &'a Permutation) -> Result<&'a [u8], Rea
     let (names, past) = target.cells.split_at(target.n);
     refuse_if(past.iter().any(|&name| name != 0), Reason::Muddle)?;
     Ok(names)
+}
+
+/// "The writer writes the section when a group is on the new zero." Nothing is refused here: the groups are at most 64, and their numbers rise.
+fn write_new_zeros(bytes: &mut Vec<u8>, groups: &[Group]) {
+    let numbers: Vec<u8> = (0..).zip(groups).filter(|(_, group)| group.zero == Zero::New).map(|(number, _)| number).collect();
+    if !numbers.is_empty() {
+        bytes.push(numbers.len() as u8);
+        bytes.extend(numbers);
+    }
 }

@@ -25,7 +25,7 @@ const LISTINGS: [(usize, usize, usize); 3] = [(4, 2, INPUTS), (8, 5, 10), (20, 2
 const SHEETS: [(&str, &str, usize); 5] = [
     ("paper", "document 01's, 1 group, 3 commands", 500),
     ("sixty-four-groups-no-commands", "64 groups, no command", 100),
-    ("longest", "64 groups, 1,000 rewrites", 10),
+    ("longest", "64 groups on the new zero, 1,000 rewrites", 10),
     ("thousand-counts", "64 groups, 1,000 count-ups of 60", 10),
     ("thousand-stores", "64 groups, 1,000 stores", 10),
 ];
@@ -35,10 +35,12 @@ const WRITTEN: [&str; 3] = ["paper", "longest", "thousand-stores"];
 type OfSize = fn(usize) -> Box<dyn Pair>;
 
 pub fn benchmarks() -> Vec<Benchmark> {
-    let jobs: [(&str, OfSize); 10] = [
+    let jobs: [(&str, OfSize); 12] = [
         ("digits", digits),
         ("rank", rank),
         ("unrank", unrank),
+        ("value", value),
+        ("permutation_of_value", permutation_of_value),
         ("read", read),
         ("rewrite", rewrite),
         ("store", store),
@@ -110,6 +112,23 @@ fn unrank(n: usize) -> Box<dyn Pair> {
         inputs(INPUTS, |random| random.below(factorial(n))),
         move |&rank, cells| *cells = turretmedlar::unrank(n, rank).unwrap().cells,
         move |&rank, cells| *cells = model::unrank(n, rank).unwrap().cells,
+    )
+}
+
+/// On the new zero: on the old one it is the rank.
+fn value(n: usize) -> Box<dyn Pair> {
+    pair(
+        inputs(INPUTS, |random| records(random, n)),
+        |(record, _), value| *value = turretmedlar::value(*record, turretmedlar::Zero::New).unwrap(),
+        |(_, record), value| *value = model::value(record, model::Zero::New).unwrap(),
+    )
+}
+
+fn permutation_of_value(n: usize) -> Box<dyn Pair> {
+    pair(
+        inputs(INPUTS, |random| random.below(factorial(n))),
+        move |&value, cells| *cells = turretmedlar::permutation_of_value(n, value, turretmedlar::Zero::New).unwrap().cells,
+        move |&value, cells| *cells = model::permutation_of_value(n, value, model::Zero::New).unwrap().cells,
     )
 }
 

@@ -10,9 +10,11 @@ pub const STACK: &str = "stack";
 
 const STEP: usize = 16;
 
-const JOBS: [(&str, fn()); 11] = [
+const JOBS: [(&str, fn()); 13] = [
     ("rank", || done(turretmedlar::rank(permutation()))),
     ("unrank", || done(turretmedlar::unrank(20, factorial(20) - 1))),
+    ("value", || done(turretmedlar::value(permutation(), turretmedlar::Zero::New))),
+    ("permutation_of_value", || done(turretmedlar::permutation_of_value(20, factorial(20) - 1, turretmedlar::Zero::New))),
     ("count_up by 60,000", || done(turretmedlar::count_up(&mut low(), 60_000))),
     ("rewrite", || done(turretmedlar::rewrite(&mut low(), permutation(), &mut [0; 20]))),
     ("store", || done(turretmedlar::store(&mut low(), factorial(20), factorial(20) - 1))),

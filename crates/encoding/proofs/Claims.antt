@@ -6,7 +6,7 @@ use Rattle.sheet.specs.Bytes.{bytesOf}
 use Rattle.sheet.specs.Held.{heldOf}
 use Rattle.sheet.proofs.Claims.{sheets}
 use Rattle.encoding.specs.CommandKinds.{kindOf, bodyBytes}
-use Rattle.encoding.specs.SheetBytes.{groupBytes, headBytes, groupsBytes, commandsBytes, sheetBytes}
+use Rattle.encoding.specs.SheetBytes.{groupBytes, headBytes, groupsBytes, commandsBytes, numberOnNew, numbersOnNew, sectionBytes, sheetBytes}
 use Rattle.encoding.specs.Said.{said}
 use Rattle.encoding.specs.Claims.{Writing}
 use Rattle.encoding.proofs.Accepted.{accepted, counts-fit}
@@ -16,7 +16,7 @@ use Rattle.encoding.proofs.Same.{same}
 use Rattle.encoding.proofs.Unsaid.{unsaid, only}
 
 pub writing : Writing
-unfolding sheetBytes groupsBytes commandsBytes groupBytes headBytes bodyBytes kindOf flatMap bytesOf heldOf
+unfolding sheetBytes groupsBytes commandsBytes sectionBytes numbersOnNew numberOnNew groupBytes headBytes bodyBytes kindOf flatMap bytesOf heldOf
 writing = record {
   read-again = λ h typed none. judged h typed (counts-fit h typed (accepted h none)) .good none;
   same = same;

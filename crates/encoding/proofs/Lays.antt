@@ -35,6 +35,11 @@ lays-named gs e g d is below there l =
     let any : getD (gs .list) g d ≡ getD (gs .list) g noGroup = getD-any (gs .list) g d noGroup (omega arith) in
     rw (any, is, entry-named gs e (omega arith)) at l
 
+-- more bytes after a part without fault, in which nothing is judged
+pub lays-more : (v : ℕ) {k u at end : ℕ} {a b c : List ℕ} {r q : Laid} {xs ys : List ℕ} → Lays k u a at b r xs → r .number ≡ 0 → Puts b (r .end) c end ys
+    → end ≤ r .end + v → q ≡ record { number = 0; end = end } → Lays k (u + v) a at c q (xs ++ ys)
+lays-more v p z put near e = lays-put e (sym z ∙ p .numbered) (puts-then (p .put z) put) (omega (arith, p .short z))
+
 -- a second part after a first one without fault
 pub lays-then : {k l u v at : ℕ} {a b c : List ℕ} {r q : Laid} {xs ys : List ℕ} → Lays k u a at b r xs → r .number ≡ 0 → Lays l v b (r .end) c q ys
     → Lays (orElse k l) (u + v) a at c q (xs ++ ys)

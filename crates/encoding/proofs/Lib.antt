@@ -2,6 +2,7 @@
 pub mod Numbers
 pub mod Judged
 pub mod Accepted
+pub mod NewNumbers
 pub mod Verdicts
 pub mod ReadAgain
 pub mod WrittenAgain
@@ -13,3 +14,4 @@ pub mod Pieces
 pub mod Spelling
 pub mod Lays
 pub mod PartsPut
+pub mod SectionPut

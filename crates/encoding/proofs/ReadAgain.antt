@@ -1,12 +1,12 @@
 -- What the bytes of a held sheet are read as: what it says, or the fault that its number is of. Assumes nothing.
 use mathlib.Core.Path.{_≡_, refl, sym, ap, _∙_}
-use mathlib.Core.Bool.{cond, _&&_, and-eq-true-iff}
+use mathlib.Core.Bool.{true, cond, _&&_, and-eq-true-iff}
 use mathlib.Core.List.{List, [], _∷_, _++_, map, append-assoc, append-nil, flatMap}
-use Prim.Native.Nat.{ℕ, _+_, _^_, _≤_, _<_}
+use Prim.Native.Nat.{ℕ, _+_, _*_, _^_, _≤_, _<_}
 use native.Mathlib.Omega.{arith}
-use borrow.Author.Tests.{leb-true, ltb-true, eq-eqb}
+use borrow.Author.Tests.{leb-true, ltb-true, le-leb, eq-eqb, ne-eqb}
 use lib.Dec.{lit<, leb, ltb}
-use lib.ListN.{length, take, drop, getD, length-append}
+use lib.ListN.{length, take, drop, getD, length-append, length-map}
 use lib.Seq.{length-take-le, drop-append-seam, take-at}
 use Rattle.theory.specs.Lists.{Every}
 use Rattle.theory.specs.Reasons.{sized}
@@ -15,6 +15,7 @@ use Rattle.theory.proofs.Cases.{by-test, by-name}
 use Rattle.permutation.specs.Records.{listOf, allZero}
 use Rattle.permutation.specs.declared.answers.Permutation.{Permutation}
 use Rattle.sheet.specs.Bytes.{missized, tied, ill-formed, got, after, check, many, number, bytesOf}
+use Rattle.sheet.specs.ZeroSection.{rising, namedGroups, section, zerosOf, zerosAt}
 use Rattle.sheet.specs.Sheet.{group, entry, countAt, rewriteAt, storeAt, bodyAt, command, commandRow, commands, sheet}
 use Rattle.sheet.specs.Held.{noGroup, levelsOf, groupsIn}
 use Rattle.sheet.specs.Typed.{Bits, GroupTyped, ActionTyped, EntryTyped, SheetTyped}
@@ -22,19 +23,21 @@ use Rattle.sheet.specs.declared.held.Action.{Action}
 use Rattle.sheet.specs.declared.held.Action.the-variants.{Count, Rewrite, Store}
 use Rattle.sheet.specs.declared.held.Group.{Group}
 use Rattle.sheet.specs.declared.held.Groups.{Groups}
+use Rattle.sheet.specs.declared.held.GroupZero.{GroupZero}
 use Rattle.sheet.specs.declared.held.Entry.{Entry}
 use Rattle.sheet.specs.declared.held.Sheet.{Sheet}
 use Rattle.sheet.proofs.Typed.{groups-there, entries-there}
 use Rattle.sheet.proofs.ByteNumbers.{number-there}
-use Rattle.theory.proofs.Every.{every-take, every-both}
+use Rattle.theory.proofs.Every.{every-take, every-so, every-both}
 use Rattle.encoding.specs.CommandKinds.{kindOf, targeted, bodyBytes}
-use Rattle.encoding.specs.SheetBytes.{groupBytes, headBytes, entryBytes, groupsBytes, commandsBytes, sheetBytes}
+use Rattle.encoding.specs.SheetBytes.{groupBytes, headBytes, entryBytes, groupsBytes, commandsBytes, numbersOnNew, sectionBytes, sheetBytes}
 use Rattle.encoding.specs.Said.{entrySaid, said}
 use Rattle.encoding.specs.Faults.{groupNumber, groupsNumber, targetNumber, actionNumber, entryNumber, commandsNumber, sheetNumber}
 use Rattle.encoding.specs.Claims.{CountsFit}
-use Rattle.encoding.proofs.Numbers.{bytes-length, bytes-little}
+use Rattle.encoding.proofs.Numbers.{bytes-length, flatMap-length, bytes-little}
 use Rattle.encoding.proofs.Verdicts.{Verdict, no-fault, verdict-got, verdict-fault, verdict-check, verdict-after, verdict-then, Judges, many-judges}
 use Rattle.encoding.proofs.Accepted.{GroupsTaken, groups-taken, group-at, sizes-long, size-at}
+use Rattle.encoding.proofs.NewNumbers.{rising-below, numbers-rise, numbers-few, zeros-back}
 
 -- ---- numbers: behind anything, before anything
 
@@ -129,6 +132,27 @@ module _ (gs : Groups) (room : length (gs .list) ≡ 64) (groups : Every GroupTy
       (body-judges g (getD (gs .list) g noGroup .n) (group-at gs room t g below .few) action (e .target) (typed .action) (typed .long) (typed .bits)
       s ((pre ++ a) ++ b) post (here ∙ simp append-assoc))))
 
+-- ---- the zeros, to the end of the sheet
+
+section-reads : (G : ℕ) (ns s pre : List ℕ) → s ≡ pre ++ sectionBytes ns → rising G 0 ns ≡ true → length ns ≤ G → G ≤ 64
+    → zerosAt G s (length pre) ≡ got (zerosOf G ns) (length s)
+unfolding sectionBytes zerosAt section namedGroups after check
+section-reads G [] s pre e t few most =
+    let here : length pre ≡ length s = ap length (sym (append-nil pre) ∙ sym e) in
+    rw (eq-eqb (length pre) (length s) here, eq-eqb (length pre) (length s) here, here)
+section-reads G (g ∷ gs) s pre e t few most =
+    let ns = g ∷ gs in
+    let a = bytesOf 1 (length ns) in
+    let b = flatMap (bytesOf 1) ns in
+    let count = number-reads 1 s pre b (length ns) e (omega arith) in
+    let small = every-so (λ g. g < G) (λ g. g < 256 ^ 1) (λ g h. omega arith) ns (rising-below G 0 ns t) in
+    let there : s ≡ (pre ++ a) ++ (b ++ []) = e ∙ simp (append-assoc, append-nil) in
+    let numbers = numbers-read 1 ns small s (pre ++ a) [] there in
+    let end : length ((pre ++ a) ++ b) ≡ length s = ap length (append-assoc pre a b ∙ sym e) in
+    let far : length s ≡ length pre + (1 + 1 * length ns) =
+    ap length e ∙ length-append pre (a ++ b) ∙ rw (length-append a b, bytes-length 1 (length ns), flatMap-length 1 ns) in
+    rw (ne-eqb (length pre) (length s) (λ q. omega arith), count, le-leb 1 (length ns) (omega arith), le-leb (length ns) G few, numbers, t, eq-eqb _ _ end, end)
+
 -- ---- the sheet
 
 module _ (h : Sheet) (typed : SheetTyped h) (fits : CountsFit h) where
@@ -144,8 +168,28 @@ module _ (h : Sheet) (typed : SheetTyped h) (fits : CountsFit h) where
   abbrev front : List ℕ
   front = bytesOf 1 (gs .count) ++ flatMap groupBytes ls
 
+  abbrev zs : List GroupZero
+  zs = take (gs .count) (h .zeros)
+
+  abbrev middle : List ℕ
+  middle = bytesOf 2 (h .count) ++ flatMap entryBytes es
+
+  abbrev last : List ℕ
+  last = sectionBytes (numbersOnNew 0 zs)
+
   abbrev back : List ℕ
-  back = bytesOf 2 (h .count) ++ flatMap entryBytes es
+  back = middle ++ last
+
+  -- behind the groups and the commands
+  zeros-read : GroupsTaken gs → zerosAt (length (groupsIn gs)) (front ++ back) (length (front ++ middle)) ≡ got zs (length (front ++ back))
+  zeros-read t =
+      let G = length (groupsIn gs) in
+      let count : G ≡ gs .count = length-map ls levelsOf ∙ groups-there gs (typed .groups-long) (t .few) in
+      let long : length zs ≡ G = length-take-le (gs .count) (h .zeros) (omega (arith, t .few, typed .zeros-long)) ∙ sym count in
+      let here : front ++ back ≡ (front ++ middle) ++ last = sym (append-assoc front middle last) in
+      section-reads G (numbersOnNew 0 zs) (front ++ back) (front ++ middle) here (numbers-rise G 0 0 zs (omega arith) (omega arith))
+      (omega (arith, numbers-few 0 zs)) (omega (arith, t .few))
+      ∙ ap (λ (l : List GroupZero). got l (length (front ++ back))) (zeros-back G zs long)
 
   commands-judged : GroupsTaken gs → Verdict (commands (groupsIn gs) (front ++ back) (length front)) (commandsNumber h) (said h) (length (front ++ back))
   unfolding commands commandRow commandsNumber said after check
@@ -153,15 +197,16 @@ module _ (h : Sheet) (typed : SheetTyped h) (fits : CountsFit h) where
       let s = front ++ back in
       let d = bytesOf 2 (h .count) in
       let f = flatMap entryBytes es in
-      let count = number-reads 2 s front f (h .count) refl (fits .commands) in
-      let end : (front ++ d) ++ f ≡ s = append-assoc front d f in
+      let parts : s ≡ front ++ (d ++ (f ++ last)) = simp append-assoc in
+      let count = number-reads 2 s front (f ++ last) (h .count) parts (fits .commands) in
+      let end : (front ++ d) ++ f ≡ front ++ middle = append-assoc front d f in
       rw count (verdict-check (leb (h .count) 1000) ill-formed (λ yes.
       let long = entries-there h typed (leb-true (h .count) 1000 yes) in
       let read =
       rw (long, end) at (many-judges (command (map length (groupsIn gs))) entryBytes (entryNumber gs) entrySaid EntryTyped
       (entry-judges gs (typed .groups-long) (typed .groups) t) es (every-take EntryTyped (h .count) (h .entries) (typed .entries))
-      s (front ++ d) [] (sym end ∙ ap (λ (l : List ℕ). (front ++ d) ++ l) (sym (append-nil f)))) in
-      verdict-then read _ (rw (eq-eqb (length s) (length s) refl))))
+      s (front ++ d) last (parts ∙ simp append-assoc)) in
+      verdict-then read _ (rw (zeros-read t))))
 
   pub judged : Verdict (sheet (sheetBytes h)) (sheetNumber h) (said h) (length (sheetBytes h))
   unfolding sheet sheetBytes groupsBytes commandsBytes sheetNumber groupsNumber after check

@@ -5,12 +5,13 @@ use Prim.Native.Nat.{ℕ, _≤_, _<_}
 use native.Mathlib.Omega.{arith}
 use borrow.Author.Tests.{eqb-true}
 use lib.Dec.{eqb}
-use lib.ListN.{length, getD, take, drop, length-map}
-use lib.Seq.{getD-take}
+use lib.ListN.{length, getD, take, drop, length-map, List·getD-append}
+use lib.Seq.{length-take-le, getD-take}
 use Rattle.theory.proofs.Padding.{padded-map-at}
 use Rattle.permutation.specs.Records.{listOf, recordOf, allZero}
 use Rattle.permutation.specs.declared.answers.Permutation.{Permutation}
 use Rattle.permutation.proofs.Records.{record-back}
+use Rattle.sheet.specs.ZeroSection.{onOld}
 use Rattle.sheet.specs.Held.{noEntry, noGroup, groupOf, groupsOf, heldOf, levelsOf, groupsIn}
 use Rattle.sheet.specs.Typed.{EntryTyped, SheetTyped}
 use Rattle.sheet.specs.declared.held.Group.{Group}
@@ -66,10 +67,12 @@ module _ (h : Sheet) (typed : SheetTyped h) (none : sheetNumber h ≡ 0) where
   same =
       let t = accepted h none .groups in
       let gs = h .groups in
+      let zeros-there = length-take-le (gs .count) (h .zeros) (omega (arith, t .few, typed .zeros-long)) in
       record {
         groups = length-map (take (gs .count) (gs .list)) levelsOf ∙ groups-there gs (typed .groups-long) (t .few);
         sizes = λ g below. ap (λ (x : Group). x .n) (group-said g below) ∙ levels-long gs (typed .groups-long) t (typed .groups) g below;
         levels = λ g below. ap levelsOf (group-said g below) ∙ group-levels _;
+        zeros = λ g below. List·getD-append (take (gs .count) (h .zeros)) _ onOld g (omega (arith, zeros-there)) ∙ getD-take (gs .count) (h .zeros) g onOld below;
         count = length-map (take (h .count) (h .entries)) entrySaid ∙ counted;
         commands = λ i more. ap (λ (e : Entry). e .command) (said-at i more);
         targets = λ i more has. ap (λ (e : Entry). e .target) (said-at i more) ∙ target-said i more has;

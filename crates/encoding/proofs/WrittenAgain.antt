@@ -1,7 +1,7 @@
 -- A sheet that was read without fault is held as it says, is not refused, and is written again: what was read from a place on is spelled by the bytes that
 -- stand there. Assumes nothing.
 use mathlib.Core.Path.{_≡_, refl, ap, sym, _∙_}
-use mathlib.Core.Bool.{not}
+use mathlib.Core.Bool.{true, not, _&&_, and-eq-true-iff}
 use mathlib.Core.List.{List, [], _∷_, _++_, map, append-assoc, append-nil, flatMap}
 use Prim.Native.Nat.{ℕ, zero, suc, _+_, _-_, _≤_, _<_}
 use native.Mathlib.Omega.{arith}
@@ -12,9 +12,11 @@ use lib.Seq.{drop-drop, drop-length, drop-at, take-at, take-append-seam}
 use Rattle.theory.specs.Lists.{Every}
 use Rattle.theory.specs.Reasons.{sized}
 use Rattle.theory.specs.Levels.{tied, readNumber}
+use Rattle.theory.proofs.Cases.{by-name}
 use Rattle.permutation.specs.Records.{listOf, recordOf}
 use Rattle.permutation.proofs.Records.{zeros-all}
 use Rattle.sheet.specs.Bytes.{Got, got, many, little, number, bytesOf}
+use Rattle.sheet.specs.ZeroSection.{rising, namedGroups, section}
 use Rattle.sheet.specs.Sheet.{group, entry, countAt, rewriteAt, storeAt, bodyAt, command, Contents, sheet}
 use Rattle.sheet.specs.Held.{groupOf, groupsOf, noEntry, noGroup, heldOf}
 use Rattle.sheet.specs.Typed.{Bits}
@@ -26,11 +28,12 @@ use Rattle.sheet.proofs.Valid.{Sections, sections, valid}
 use Rattle.sheet.proofs.InMemory.{group-levels, groups-back, groups-at}
 use Rattle.theory.proofs.Every.{every-nth, every-take, every-drop, every-map}
 use Rattle.encoding.specs.CommandKinds.{kindOf, targeted, bodyBytes}
-use Rattle.encoding.specs.SheetBytes.{groupBytes, headBytes, entryBytes, groupsBytes, commandsBytes, sheetBytes}
+use Rattle.encoding.specs.SheetBytes.{groupBytes, headBytes, entryBytes, groupsBytes, commandsBytes, numbersOnNew, sectionBytes, sheetBytes}
 use Rattle.encoding.specs.Said.{entrySaid, said}
 use Rattle.encoding.specs.Faults.{groupNumber, groupsNumber, targetNumber, actionNumber, entryNumber, commandsNumber, sheetNumber}
 use Rattle.encoding.proofs.Numbers.{little-bytes}
 use Rattle.encoding.proofs.Judged.{none-first}
+use Rattle.encoding.proofs.NewNumbers.{numbers-back}
 
 -- ---- bytes that stand from one place to another
 
@@ -154,6 +157,39 @@ command-read sizes s at e end r =
           (body .stands bytes));
     }
 
+-- ---- the zeros
+
+-- bytes of a section that is there
+some-bytes : (ns : List ℕ) → 1 ≤ length ns → sectionBytes ns ≡ bytesOf 1 (length ns) ++ flatMap (bytesOf 1) ns
+unfolding sectionBytes
+some-bytes [] h = absurd (omega arith)
+some-bytes (g ∷ gs) h = refl
+
+-- what is known of the numbers of a section, or of none
+record SectionRead (G : ℕ) (s : List ℕ) (at : ℕ) (ns : List ℕ) (end : ℕ) : Type 0 where
+  rise : rising G 0 ns ≡ true
+  stands : Bits 8 s → Stands s at end (sectionBytes ns)
+
+section-read : (G : ℕ) (s : List ℕ) (at : ℕ) (ns : List ℕ) (end : ℕ) → section G s at ≡ got ns end → SectionRead G s at ns end
+unfolding section namedGroups rising sectionBytes
+section-read G s at ns end =
+    by-name at (length s)
+    (λ is t. rw t (λ e. is-got (SectionRead G s at) e (record { rise = refl; stands = λ bytes. record { is = refl } })))
+    (λ ne t. rw t (λ e. (
+    let one = after-got (number 1 s at) _ e in
+    let range = check-got (leb 1 (one .0) && leb (one .0) G) _ _ (one .3) in
+    let row = after-got (many (one .0) (number 1 s) (one .1)) _ (range .1) in
+    let rise = check-got (rising G 0 (row .0)) _ _ (row .3) in
+    let long : length (row .0) ≡ one .0 = many-length (number 1 s) (one .0) (one .1) (row .0) (row .1) (row .2) in
+    let some = leb-true 1 (one .0) (and-eq-true-iff (leb 1 (one .0)) (leb (one .0) G) .0 (range .0) .0) in
+    is-got (SectionRead G s at) (rise .1) (record {
+      rise = rise .0;
+      stands = λ bytes. (
+          let count : Stands s at (one .1) (bytesOf 1 (length (row .0))) = rw long (number-spells s bytes 1 at (one .0) (one .1) (one .2)) in
+          rw (some-bytes (row .0) (omega arith))
+          (stands-then count (many-spells s (number 1 s) (bytesOf 1) (number-spells s bytes 1) (one .0) (one .1) (row .0) (row .1) (row .2))));
+    }))))
+
 -- ---- the sheet
 
 every-said : (es : List Entry) → Every (λ e. entrySaid e ≡ e) es → map entrySaid es ≡ es
@@ -176,7 +212,7 @@ module _ (s : List ℕ) (c : Contents) (end : ℕ) (read : sheet s ≡ got c end
   each : (P : Entry → Type 0) → ((at : ℕ) (e : Entry) (end : ℕ) → CommandRead sizes s at e end → P e) → Every P (c .entries)
   each P so =
       every-nth P noEntry (c .entries)
-      (many-each (command sizes s) P (λ at e end r. so at e end (command-read sizes s at e end r)) noEntry (length (c .entries)) (parts .second) (c .entries) end (parts .entries))
+      (many-each (command sizes s) P (λ at e end r. so at e end (command-read sizes s at e end r)) noEntry (length (c .entries)) (parts .second) (c .entries) (parts .third) (parts .entries))
 
   groups-front : take (length (c .groups)) (groupsOf (c .groups) .list) ≡ map groupOf (c .groups)
   groups-front = take-at (map groupOf (c .groups)) _ _ (length-map (c .groups) groupOf)
@@ -185,9 +221,13 @@ module _ (s : List ℕ) (c : Contents) (end : ℕ) (read : sheet s ≡ got c end
   unfolding heldOf
   entries-front = take-append-seam (c .entries) _
 
+  zeros-front : take (length (c .groups)) (heldOf c .zeros) ≡ c .zeros
+  unfolding heldOf
+  zeros-front = take-at (c .zeros) _ _ (valid s c end read .0 .zeros)
+
   pub says : said (heldOf c) ≡ c
   unfolding said heldOf
-  says = rw (groups-back (c .groups), entries-front, every-said (c .entries) (each (λ e. entrySaid e ≡ e) (λ at e end r. r .same)))
+  says = rw (groups-back (c .groups), zeros-front, entries-front, every-said (c .entries) (each (λ e. entrySaid e ≡ e) (λ at e end r. r .same)))
 
   entry-none : (at : ℕ) (e : Entry) (end : ℕ) → CommandRead sizes s at e end → entryNumber (groupsOf (c .groups)) e ≡ 0
   unfolding entryNumber
@@ -223,6 +263,9 @@ module _ (s : List ℕ) (c : Contents) (end : ℕ) (read : sheet s ≡ got c end
       (many-spells s (group s) (λ L. groupBytes (groupOf L)) (group-spells s bytes) _ (p .first) (c .groups) (p .middle) (p .groups)) in
       let entries =
       stands-then (number-spells s bytes 2 (p .middle) _ (p .second) (p .commands))
-      (many-spells s (command sizes s) entryBytes (λ at e end r. command-read sizes s at e end r .stands bytes) _ (p .second) (c .entries) end (p .entries)) in
+      (many-spells s (command sizes s) entryBytes (λ at e end r. command-read sizes s at e end r .stands bytes) _ (p .second) (c .entries) (p .third) (p .entries)) in
+      let zeros = section-read (length (c .groups)) s (p .third) (p .numbers) end (p .named) in
+      let numbers : numbersOnNew 0 (c .zeros) ≡ p .numbers = ap (numbersOnNew 0) (p .zeros) ∙ numbers-back (length (c .groups)) (p .numbers) (zeros .rise) in
       let nothing : drop end s ≡ [] = rw (p .last) (drop-length s) in
-      rw (groups-front, flatMap-map groupBytes groupOf (c .groups), entries-front) (sym (stands-then groups entries .is ∙ rw (nothing, append-nil)))
+      rw (groups-front, flatMap-map groupBytes groupOf (c .groups), entries-front, zeros-front, numbers)
+      (sym (stands-then groups (stands-then entries (zeros .stands bytes)) .is ∙ rw (nothing, append-nil)))

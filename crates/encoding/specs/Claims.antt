@@ -7,6 +7,7 @@ use Prim.Native.Nat.{ℕ, _^_, _≤_, _<_}
 use lib.ListN.{length, getD, take}
 use Rattle.theory.specs.Lists.{Every}
 use Rattle.sheet.specs.Bytes.{Fault, numberOf, fault, got}
+use Rattle.sheet.specs.ZeroSection.{onOld}
 use Rattle.sheet.specs.Sheet.{Contents, sheet}
 use Rattle.sheet.specs.Held.{noGroup, noEntry, heldOf, levelsOf}
 use Rattle.sheet.specs.Claims.{longestSheet, exampleSheet, exampleContents}
@@ -18,11 +19,12 @@ use Rattle.encoding.specs.SheetBytes.{sheetBytes}
 use Rattle.encoding.specs.Said.{said}
 use Rattle.encoding.specs.Faults.{sheetNumber}
 
--- k has "the same groups and commands" as h. A target is compared beside a command that has one, and beside no other
+-- k has "the same groups and commands" as h, a group with its zero. A target is compared beside a command that has one, and beside no other
 pub record Same (h k : Sheet) : Type 0 where
   pub groups : k .groups .count ≡ h .groups .count
   pub sizes : (g : ℕ) → g < h .groups .count → getD (k .groups .list) g noGroup .n ≡ getD (h .groups .list) g noGroup .n
   pub levels : (g : ℕ) → g < h .groups .count → levelsOf (getD (k .groups .list) g noGroup) ≡ levelsOf (getD (h .groups .list) g noGroup)
+  pub zeros : (g : ℕ) → g < h .groups .count → getD (k .zeros) g onOld ≡ getD (h .zeros) g onOld
   pub count : k .count ≡ h .count
   pub commands : (i : ℕ) → i < h .count → getD (k .entries) i noEntry .command ≡ getD (h .entries) i noEntry .command
   pub targets : (i : ℕ) → i < h .count → targeted (getD (h .entries) i noEntry .command .action) ≡ true

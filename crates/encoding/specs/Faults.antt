@@ -51,6 +51,6 @@ entryNumber groups e =
 unfoldable pub commandsNumber : Sheet → ℕ
 commandsNumber sheet = cond (leb (sheet .count) 1000) (first (entryNumber (sheet .groups)) (take (sheet .count) (sheet .entries))) ill-formed
 
--- "sections in this sequence"
+-- "sections in this sequence". The third has no fault: a zero that is held can be written
 unfoldable pub sheetNumber : Sheet → ℕ
 sheetNumber sheet = orElse (groupsNumber (sheet .groups)) (commandsNumber sheet)

@@ -1,4 +1,4 @@
--- What a held sheet says: its groups and commands, without what no sheet of bytes holds. Levels past n, groups and commands past their counts, and a target
+-- What a held sheet says: its groups and commands, without what no sheet of bytes holds. Levels past n, groups with their zeros and commands past their counts, and a target
 -- beside a command that has none are not said. Assumes nothing.
 use mathlib.Core.Bool.{cond}
 use mathlib.Core.List.{[], map}
@@ -14,4 +14,4 @@ abbrev pub entrySaid : Entry → Entry
 entrySaid e = entry (e .command .group) (e .command .action) (cond (targeted (e .command .action)) (listOf (e .target)) [])
 
 unfoldable pub said : Sheet → Contents
-said sheet = record { groups = contentsOf sheet .groups; entries = map entrySaid (contentsOf sheet .entries) }
+said sheet = record { groups = contentsOf sheet .groups; zeros = contentsOf sheet .zeros; entries = map entrySaid (contentsOf sheet .entries) }

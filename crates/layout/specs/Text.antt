@@ -7,7 +7,7 @@ use Rattle.charge.specs.declared.answers.Pushes.{Pushes}
 use Rattle.io.specs.Digits.{digits}
 use Rattle.sheet.specs.Bytes.{Got, fault, got, numberOf}
 use Rattle.sheet.specs.Sheet.{Contents}
-use Rattle.work.specs.Work.{answersOf, groupsLeft, rankOf}
+use Rattle.work.specs.Work.{answersOf, groupsLeft, valuesLeft}
 
 abbrev pub space : ℕ
 space = 32
@@ -48,16 +48,17 @@ unfoldable pub commandLines : ℕ → List Pushes → List ℕ
 commandLines place [] = []
 commandLines place (a ∷ rest) = commandLine place a ++ commandLines (suc place) rest
 
--- "each group has: g, group number, rank, levels by name". 103 is g
-unfoldable pub groupLine : ℕ → List ℕ → List ℕ
-groupLine g L = line 103 (g ∷ rankOf L ∷ L)
+-- "each group has: g, group number, rank, levels by name"; document 02, request 7: "The g line prints the value", in the rank's place. 103 is g
+unfoldable pub groupLine : ℕ → ℕ → List ℕ → List ℕ
+groupLine g value L = line 103 (g ∷ value ∷ L)
 
--- the lines of groups, the first of which has this number
-unfoldable pub groupLines : ℕ → List (List ℕ) → List ℕ
-groupLines g [] = []
-groupLines g (L ∷ rest) = groupLine g L ++ groupLines (suc g) rest
+-- the lines of groups, each with its value, the first of which has this number
+unfoldable pub groupLines : ℕ → List ℕ → List (List ℕ) → List ℕ
+groupLines g (value ∷ values) (L ∷ rest) = groupLine g value L ++ groupLines (suc g) values rest
+groupLines g [] groups = []
+groupLines g (value ∷ values) [] = []
 
 -- "Otherwise each command has [..] Then each group has [..]"; "Only a sheet without fault starts work."
 unfoldable pub textOf : Got Contents → List ℕ
 textOf (fault f) = faultLine (numberOf f)
-textOf (got c end) = commandLines 1 (answersOf c) ++ groupLines 0 (groupsLeft c)
+textOf (got c end) = commandLines 1 (answersOf c) ++ groupLines 0 (valuesLeft c) (groupsLeft c)

@@ -4,10 +4,8 @@ ghost use Prim.Native.Nat.{_+_, _*_, _≤_, _<_};
 ghost use lib.ListN.{length, take};
 ghost use Rattle.sheet.specs.Held.{levelsOf, groupsIn};
 ghost use Rattle.layout.specs.Text as meaning;
-ghost use Rattle.work.specs.Work as work;
-ghost use Rattle.sheet.specs.Standing.{GroupHeld};
+ghost use Rattle.sheet.specs.Standing.{GroupHeld, GroupsHeld};
 ghost use Rattle.sheet.specs.Putting.{Puts};
-ghost use Rattle.layout.specs.Laying.{OutcomeHeld};
 use super::fields::put_byte;
 use super::fields::put_field;
 use charge::answers::Pushes;
@@ -54,16 +52,16 @@ fn put_levels(text: &mut [u8], at: usize, levels: &[u16]) -> usize
     end
 }
 
-fn put_group(text: &mut [u8], at: usize, g: usize, rank: u64, group: Group) -> usize
-    requires { ⌜ (at + 146 ≤ length (now text)) × (g < 64) × GroupHeld group × (rank ≡ work.rankOf (levelsOf group)) ⌝ }
-    ensures puts { λ r. ⌜ Puts (now (text .entry)) at (now (text .exit)) r (meaning.groupLine g (levelsOf group)) ⌝ }
+fn put_group(text: &mut [u8], at: usize, g: usize, value: u64, group: Group) -> usize
+    requires { ⌜ (at + 146 ≤ length (now text)) × (g < 64) × GroupHeld group ⌝ }
+    ensures puts { λ r. ⌜ Puts (now (text .entry)) at (now (text .exit)) r (meaning.groupLine g value (levelsOf group)) ⌝ }
     ensures short { λ r. ⌜ r ≤ at + 146 ⌝ }
 {
     let n = group.n;
     let levels = group.levels;
     let a = put_byte(text, at, b'g');
     let b = put_field(text, a, g as u64);
-    let c = put_field(text, b, rank);
+    let c = put_field(text, b, value);
     let d = put_levels(text, c, &levels[..n]);
     put_byte(text, d, b'\n')
 }
@@ -87,8 +85,8 @@ pub fn put_commands(text: &mut [u8], outcome: Outcome) -> usize
 
 // The lines of the groups, after those of the commands. For `text`, as above.
 pub fn put_groups(text: &mut [u8], from: usize, outcome: Outcome) -> usize
-    requires { ⌜ (from + 146 * outcome .groups .count ≤ length (now text)) × OutcomeHeld outcome ⌝ }
-    ensures puts { λ r. ⌜ Puts (now (text .entry)) from (now (text .exit)) r (meaning.groupLines 0 (groupsIn (outcome .groups))) ⌝ }
+    requires { ⌜ (from + 146 * outcome .groups .count ≤ length (now text)) × GroupsHeld (outcome .groups) ⌝ }
+    ensures puts { λ r. ⌜ Puts (now (text .entry)) from (now (text .exit)) r (meaning.groupLines 0 (take (outcome .groups .count) (outcome .values)) (groupsIn (outcome .groups))) ⌝ }
     ensures short { λ r. ⌜ r ≤ from + 146 * outcome .groups .count ⌝ }
 {
     let groups = outcome.groups;
@@ -97,7 +95,7 @@ pub fn put_groups(text: &mut [u8], from: usize, outcome: Outcome) -> usize
     let mut g: usize = 0;
     while g < count {
         let group = groups.list[g];
-        at = put_group(text, at, g, outcome.ranks[g], group);
+        at = put_group(text, at, g, outcome.values[g], group);
         g += 1;
     }
     at

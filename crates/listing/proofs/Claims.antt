@@ -3,6 +3,7 @@ use mathlib.Core.Path.{_≡_, refl}
 use Prim.Native.Nat.{ℕ}
 use native.Mathlib.Omega.{arith}
 use borrow.Author.Tests.{le-leb}
+use Rattle.ranking.specs.Zeros.{numberedZero}
 use Rattle.sheet.specs.Typed.{ActionTyped}
 use Rattle.sheet.specs.declared.held.Action.{Action}
 use Rattle.sheet.specs.declared.held.Action.the-variants.{Count, Rewrite, Store}
@@ -18,5 +19,5 @@ command-is g n Rewrite typed = refl
 command-is g n (Store m s) typed = refl
 
 pub listing : Listing
-unfolding said heldIn commandOf countOf targeted
+unfolding said heldIn numberedZero commandOf countOf targeted
 listing = record { commands = command-is; example = refl }

@@ -25,7 +25,7 @@ secondNumber (Store m s) = s
 -- document 01's "Input bytes", as lists
 abbrev pub exampleLists : LentLists
 exampleLists =
-    lists (3 ∷ []) (3 ∷ 1 ∷ 2 ∷ replicate 17 0) (1 ∷ 2 ∷ 3 ∷ []) (0 ∷ 0 ∷ 0 ∷ []) (4 ∷ 0 ∷ 3 ∷ 0 ∷ 3 ∷ 3 ∷ [])
+    lists (3 ∷ []) (3 ∷ 1 ∷ 2 ∷ replicate 17 0) (0 ∷ []) (1 ∷ 2 ∷ 3 ∷ []) (0 ∷ 0 ∷ 0 ∷ []) (4 ∷ 0 ∷ 3 ∷ 0 ∷ 3 ∷ 3 ∷ [])
     (replicate 20 0 ++ (3 ∷ 1 ∷ 2 ∷ replicate 17 0) ++ replicate 20 0)
 
 pub record Listing : Type 0 where

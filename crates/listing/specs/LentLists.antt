@@ -1,34 +1,39 @@
 -- A held sheet given as lent lists, one for each field, for callers that cannot pass it whole. Its rows stand one after the other: one number for each group
--- and for each command in `sizes`, `kinds` and `groups`, twenty places for each in `levels` and `names`, and two in `numbers`. Assumes nothing.
+-- and for each command in `sizes`, `zeros`, `kinds` and `groups`, twenty places for each in `levels` and `names`, and two in `numbers`. Assumes nothing.
 use mathlib.Core.Bool.{Bool, cond, _&&_}
 use mathlib.Core.List.{List, map}
 use Prim.Native.Nat.{ℕ, _+_, _*_}
 use lib.Dec.{eqb, leb}
 use lib.ListN.{length, getD, take, drop}
 use Rattle.theory.specs.Reasons.{done, fit}
-use Rattle.theory.specs.Refusal.{given}
+use Rattle.theory.specs.Refusal.{given, orElse}
 use Rattle.theory.specs.Lists.{namesFrom, padded}
+use Rattle.ranking.specs.Zeros.{zeroNumber, numberedZero}
+use Rattle.sheet.specs.ZeroSection.{onZero, onOld}
 use Rattle.sheet.specs.Held.{noGroup, noEntry}
 use Rattle.sheet.specs.declared.held.Action.{Action}
 use Rattle.sheet.specs.declared.held.Action.the-variants.{Count, Rewrite, Store}
 use Rattle.sheet.specs.declared.held.Command.{Command}
 use Rattle.sheet.specs.declared.held.Group.{Group}
+use Rattle.sheet.specs.declared.held.GroupZero.{GroupZero}
 use Rattle.sheet.specs.declared.held.Entry.{Entry}
 use Rattle.sheet.specs.declared.held.Sheet.{Sheet}
+use Rattle.encoding.specs.Faults.{first}
 use Rattle.writer.specs.Answers.{writeAnswer, writtenOn}
 use Rattle.writer.specs.declared.answers.Written.{Written}
 
 pub record LentLists : Type 0 where
   pub sizes : List ℕ
   pub levels : List ℕ
+  pub zeros : List ℕ
   pub kinds : List ℕ
   pub groups : List ℕ
   pub numbers : List ℕ
   pub names : List ℕ
 
-abbrev pub lists : List ℕ → List ℕ → List ℕ → List ℕ → List ℕ → List ℕ → LentLists
-lists sizes levels kinds groups numbers names =
-    record { sizes = sizes; levels = levels; kinds = kinds; groups = groups; numbers = numbers; names = names }
+abbrev pub lists : List ℕ → List ℕ → List ℕ → List ℕ → List ℕ → List ℕ → List ℕ → LentLists
+lists sizes levels zeros kinds groups numbers names =
+    record { sizes = sizes; levels = levels; zeros = zeros; kinds = kinds; groups = groups; numbers = numbers; names = names }
 
 -- row i, of k places each
 abbrev pub rowAt : ℕ → ℕ → List ℕ → List ℕ
@@ -37,6 +42,10 @@ rowAt k i xs = take k (drop (k * i) xs)
 -- group i: its n, and its twenty levels by name
 abbrev pub groupAt : List ℕ → List ℕ → ℕ → Group
 groupAt sizes levels i = record { n = getD sizes i 0; levels = rowAt 20 i levels }
+
+-- its zero, given as a number
+abbrev pub zeroIn : List ℕ → ℕ → GroupZero
+zeroIn zeros i = onZero (numberedZero (getD zeros i 0))
 
 abbrev commandOn : ℕ → Action → Command
 commandOn g action = record { group = g; action = action }
@@ -76,20 +85,23 @@ rowOf room z f count = padded room z (map f (namesFrom 0 (within room count)))
 unfoldable pub heldIn : LentLists → Sheet
 heldIn l = record {
   groups = record { count = length (l .sizes); list = rowOf 64 noGroup (groupAt (l .sizes) (l .levels)) (length (l .sizes)) };
+  zeros = rowOf 64 onOld (zeroIn (l .zeros)) (length (l .sizes));
   count = length (l .kinds);
   entries = rowOf 1000 noEntry (entryAt (l .kinds) (l .groups) (l .numbers) (l .names)) (length (l .kinds));
 }
 
 -- are the lists long enough? By their lengths
-abbrev pub longEnough : ℕ → ℕ → ℕ → ℕ → ℕ → ℕ → Bool
-longEnough sizes levels kinds groups numbers names = leb (20 * sizes) levels && leb kinds groups && leb (2 * kinds) numbers && leb (20 * kinds) names
+abbrev pub longEnough : ℕ → ℕ → ℕ → ℕ → ℕ → ℕ → ℕ → Bool
+longEnough sizes levels zeros kinds groups numbers names = leb (20 * sizes) levels && leb sizes zeros && leb kinds groups && leb (2 * kinds) numbers && leb (20 * kinds) names
 
--- a list that is too short for what the others say is fit
+-- a list that is too short for what the others say is fit; a zero that is neither old nor new is value
 unfoldable pub listsNumber : LentLists → ℕ
 listsNumber l =
-    cond (longEnough (length (l .sizes)) (length (l .levels)) (length (l .kinds)) (length (l .groups)) (length (l .numbers)) (length (l .names))) done fit
+    orElse
+    (cond (longEnough (length (l .sizes)) (length (l .levels)) (length (l .zeros)) (length (l .kinds)) (length (l .groups)) (length (l .numbers)) (length (l .names))) done fit)
+    (first zeroNumber (take (length (l .sizes)) (l .zeros)))
 
--- it comes before all others, since what a list lacks cannot be judged
+-- both come before all others, since what a list lacks, or no group can have, cannot be held
 unfoldable pub listsAnswer : LentLists → ℕ → Written
 listsAnswer l room = given (listsNumber l) (writeAnswer (heldIn l) room) (record { number = listsNumber l; length = 0 })
 

@@ -1,4 +1,4 @@
-// A held sheet from lent lists, one for each field. A kind is added in `command_of`.
+// Groups and commands from lent lists, one for each field. A kind is added in `command_of`.
 ghost use mathlib.Core.Path.{_≡_};
 ghost use Prim.Native.Nat.{_+_, _*_, _≤_};
 ghost use lib.ListN.{length};
@@ -12,7 +12,7 @@ use sheet::held::Group;
 use sheet::held::no_entries;
 use sheet::held::no_groups;
 
-fn within(room: usize, count: usize) -> usize
+pub fn within(room: usize, count: usize) -> usize
     ensures { λ r. ⌜ r ≡ meaning.within room count ⌝ }
 {
     if room < count {

@@ -5,6 +5,8 @@ ghost use Rattle.listing.specs.LentLists as meaning;
 ghost use Rattle.writer.specs.RoundTrips.{RoundTrips};
 use super::lists::entries_in;
 use super::lists::groups_in;
+use super::zeros::judge_zeros;
+use super::zeros::zeros_in;
 use permutation::reasons::FIT;
 use sheet::held::Groups;
 use sheet::held::Sheet;
@@ -15,14 +17,18 @@ use writer::write_sheet::write_sheet;
 fn long_enough(
     sizes: usize,
     levels: usize,
+    zeros: usize,
     kinds: usize,
     groups: usize,
     numbers: usize,
     names: usize,
 ) -> bool
-    ensures { λ r. ⌜ r ≡ meaning.longEnough sizes levels kinds groups numbers names ⌝ }
+    ensures { λ r. ⌜ r ≡ meaning.longEnough sizes levels zeros kinds groups numbers names ⌝ }
 {
     if levels / 20 < sizes {
+        return false;
+    }
+    if zeros < sizes {
         return false;
     }
     if groups < kinds {
@@ -34,42 +40,62 @@ fn long_enough(
     kinds <= names / 20
 }
 
-pub fn write_lists(
+// FIT, VALUE, or 0 where the lists hold a sheet.
+fn judge_lists(
     sizes: &[usize],
     levels: &[u16],
+    zeros: &[u8],
     kinds: &[u8],
     groups: &[u8],
     numbers: &[u64],
     names: &[u8],
-    out: &mut [u8],
-) -> Written
-    ensures answer { λ r. ⌜ r ≡ meaning.listsAnswer (meaning.lists (now (sizes .entry)) (now (levels .entry)) (now (kinds .entry)) (now (groups .entry)) (now (numbers .entry)) (now (names .entry))) (length (now (out .entry))) ⌝ }
-    ensures out_left { λ _. ⌜ now (out .exit) ≡ meaning.listsOn (meaning.lists (now (sizes .entry)) (now (levels .entry)) (now (kinds .entry)) (now (groups .entry)) (now (numbers .entry)) (now (names .entry))) (now (out .entry)) ⌝ }
-    ensures round_trips { λ r. ⌜ (meaning.listsNumber (meaning.lists (now (sizes .entry)) (now (levels .entry)) (now (kinds .entry)) (now (groups .entry)) (now (numbers .entry)) (now (names .entry))) ≡ 0 → RoundTrips (meaning.heldIn (meaning.lists (now (sizes .entry)) (now (levels .entry)) (now (kinds .entry)) (now (groups .entry)) (now (numbers .entry)) (now (names .entry)))) (now (out .entry)) r (now (out .exit))) ⌝ }
+) -> u8
+    ensures { λ r. ⌜ r ≡ meaning.listsNumber (meaning.lists (now (sizes .entry)) (now (levels .entry)) (now (zeros .entry)) (now (kinds .entry)) (now (groups .entry)) (now (numbers .entry)) (now (names .entry))) ⌝ }
 {
     let enough = long_enough(
         sizes.len(),
         levels.len(),
+        zeros.len(),
         kinds.len(),
         groups.len(),
         numbers.len(),
         names.len(),
     );
     if enough {
-        let list = groups_in(sizes, levels);
-        let entries = entries_in(kinds, groups, numbers, names);
-        let sheet = Sheet {
-            groups: Groups {
-                count: sizes.len(),
-                list,
-            },
-            count: kinds.len(),
-            entries,
-        };
-        return write_sheet(sheet, out);
+        return judge_zeros(zeros, sizes.len());
     }
-    Written {
-        number: FIT,
-        length: 0,
+    FIT
+}
+
+pub fn write_lists(
+    sizes: &[usize],
+    levels: &[u16],
+    zeros: &[u8],
+    kinds: &[u8],
+    groups: &[u8],
+    numbers: &[u64],
+    names: &[u8],
+    out: &mut [u8],
+) -> Written
+    ensures answer { λ r. ⌜ r ≡ meaning.listsAnswer (meaning.lists (now (sizes .entry)) (now (levels .entry)) (now (zeros .entry)) (now (kinds .entry)) (now (groups .entry)) (now (numbers .entry)) (now (names .entry))) (length (now (out .entry))) ⌝ }
+    ensures out_left { λ _. ⌜ now (out .exit) ≡ meaning.listsOn (meaning.lists (now (sizes .entry)) (now (levels .entry)) (now (zeros .entry)) (now (kinds .entry)) (now (groups .entry)) (now (numbers .entry)) (now (names .entry))) (now (out .entry)) ⌝ }
+    ensures round_trips { λ r. ⌜ (meaning.listsNumber (meaning.lists (now (sizes .entry)) (now (levels .entry)) (now (zeros .entry)) (now (kinds .entry)) (now (groups .entry)) (now (numbers .entry)) (now (names .entry))) ≡ 0 → RoundTrips (meaning.heldIn (meaning.lists (now (sizes .entry)) (now (levels .entry)) (now (zeros .entry)) (now (kinds .entry)) (now (groups .entry)) (now (numbers .entry)) (now (names .entry)))) (now (out .entry)) r (now (out .exit))) ⌝ }
+{
+    let number = judge_lists(sizes, levels, zeros, kinds, groups, numbers, names);
+    if number != 0 {
+        return Written { number, length: 0 };
     }
+    let list = groups_in(sizes, levels);
+    let row = zeros_in(zeros, sizes.len());
+    let entries = entries_in(kinds, groups, numbers, names);
+    let sheet = Sheet {
+        groups: Groups {
+            count: sizes.len(),
+            list,
+        },
+        zeros: row,
+        count: kinds.len(),
+        entries,
+    };
+    write_sheet(sheet, out)
 }

@@ -1,4 +1,4 @@
--- The value of a row of digits, the last digit first: what holds when m digits were read. Assumes nothing.
+-- The value of a row of digits, the last digit first: what holds when m digits were read. Then the rank and the value of a record. Assumes nothing.
 use mathlib.Core.Path.{_≡_, sym, ap, ap₂, _∙_}
 use mathlib.Core.List.{List, _∷_}
 use Prim.Native.Nat.{ℕ, suc, _+_, _-_, _*_, _^_, _≤_, _<_}
@@ -16,10 +16,12 @@ use Rattle.theory.proofs.Ranking.{digits-long, digits-rank, ranking}
 use Rattle.permutation.specs.Records.{recordOf}
 use Rattle.permutation.proofs.Records.{fault-record}
 use Rattle.permutation.proofs.Answering.{list-record}
-use Rattle.ranking.specs.Answers.{rankAnswer}
+use Rattle.ranking.specs.Answers.{rankAnswer, valueAnswer}
+use Rattle.ranking.specs.Zeros.{valueOn}
+use Rattle.ranking.specs.declared.zero.Zero.{Zero}
 use Rattle.ranking.specs.BySpots.{Bounded}
 
-pub record Valued (row : List ℕ) (n m value : ℕ) : Type 0 where
+pub record RowValued (row : List ℕ) (n m value : ℕ) : Type 0 where
   pub within : m ≤ n
   pub is : value ≡ digitValue m (drop (n - m) (take n row))
   pub below : value < factorial m
@@ -28,7 +30,7 @@ module _ (row : List ℕ) (n : ℕ) (room : n ≤ length row) where
   long : length (take n row) ≡ n
   long = length-take-le n row room
 
-  pub valued-none : Valued row n 0 0
+  pub valued-none : RowValued row n 0 0
   unfolding digitValue
   valued-none = record {
     within = omega arith;
@@ -36,7 +38,7 @@ module _ (row : List ℕ) (n : ℕ) (room : n ≤ length row) where
     below = omega arith;
   }
 
-  module _ (m value d : ℕ) (v : Valued row n m value) (more : m < n) (is-d : d ≡ getD row (n - 1 - m) 0) (small : d < suc m) where
+  module _ (m value d : ℕ) (v : RowValued row n m value) (more : m < n) (is-d : d ≡ getD row (n - 1 - m) 0) (small : d < suc m) where
     next-digit : drop (n - suc m) (take n row) ≡ d ∷ drop (n - m) (take n row)
     next-digit =
         let i : n - suc m ≡ n - 1 - m = omega arith in
@@ -48,7 +50,7 @@ module _ (row : List ℕ) (n : ℕ) (room : n ≤ length row) where
     next-below : d + suc m * value < factorial (suc m)
     next-below = omega (arith, mul-le-mul-left (suc m) (v .below))
 
-    pub valued-more : Valued row n (suc m) (d + suc m * value)
+    pub valued-more : RowValued row n (suc m) (d + suc m * value)
     unfolding digitValue
     valued-more = record {
       within = more;
@@ -59,7 +61,7 @@ module _ (row : List ℕ) (n : ℕ) (room : n ≤ length row) where
     pub valued-fits : n ≤ 20 → d + suc m * value < 2 ^ 64
     valued-fits few = omega (arith, next-below, factorials .fits (suc m) (omega arith))
 
-  pub valued-all : (m value : ℕ) → m ≡ n → Valued row n m value → value ≡ digitValue n (take n row)
+  pub valued-all : (m value : ℕ) → m ≡ n → RowValued row n m value → value ≡ digitValue n (take n row)
   valued-all m value e v =
       let z : n - m ≡ 0 = omega arith in v .is ∙ ap₂ (λ (k j : ℕ). digitValue k (drop j (take n row))) e z
 
@@ -81,7 +83,12 @@ module _ (n : ℕ) (xs : List ℕ) (few : n ≤ 20) where
   pub row-rank : digitValue n (take n (row (digits n xs))) ≡ rank n xs
   row-rank = ap (digitValue n) first ∙ digits-rank n xs
 
--- the rank of the record of a permutation
-pub ranked-record : (n : ℕ) (xs : List ℕ) → 2 ≤ n → n ≤ 20 → IsPermutation n xs → rankAnswer (recordOf xs) ≡ record { number = 0; rank = rank n xs }
-unfolding rankAnswer
-ranked-record n xs few many o = rw (fault-record n xs few many o, list-record n xs few many o, o .long)
+-- the rank and the value of the record of a permutation
+module _ (n : ℕ) (xs : List ℕ) (few : 2 ≤ n) (many : n ≤ 20) (o : IsPermutation n xs) where
+  pub ranked-record : rankAnswer (recordOf xs) ≡ record { number = 0; rank = rank n xs }
+  unfolding rankAnswer
+  ranked-record = rw (fault-record n xs few many o, list-record n xs few many o, o .long)
+
+  pub valued-record : (z : Zero) → valueAnswer (recordOf xs) z ≡ record { number = 0; value = valueOn z n xs }
+  unfolding valueAnswer
+  valued-record z = rw (fault-record n xs few many o, list-record n xs few many o, o .long)

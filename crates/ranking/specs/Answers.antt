@@ -16,6 +16,9 @@ use Rattle.permutation.specs.declared.answers.Permutation.{Permutation}
 use Rattle.permutation.specs.declared.answers.Permuted.{Permuted}
 use Rattle.ranking.specs.declared.answers.Digits.{Digits}
 use Rattle.ranking.specs.declared.answers.Ranked.{Ranked}
+use Rattle.ranking.specs.declared.answers.Valued.{Valued}
+use Rattle.ranking.specs.declared.zero.Zero.{Zero}
+use Rattle.ranking.specs.Zeros.{valueOn, permutationOn, zeroNumber, numberedZero}
 
 -- "Digits b0 first, n of them, the last always 0, in a row of twenty with 0 past n."
 unfoldable pub digitsAnswer : Permutation → Digits
@@ -32,3 +35,22 @@ unrankNumber n r = orElse (sizeOf n) (cond (ltb r (factorial n)) done value)
 -- "order of a rank"
 unfoldable pub unrankAnswer : ℕ → ℕ → Permuted
 unrankAnswer n r = permuted (unrankNumber n r) (unrank n r)
+
+-- a job that gives a value, or 0 beside the number of a refusal
+abbrev pub valued : ℕ → ℕ → Valued
+valued number v = record { number = number; value = given number v 0 }
+
+-- document 02, request 7: "Its value is the rank less the rank of its zero order, modulo n!"
+unfoldable pub valueAnswer : Permutation → Zero → Valued
+valueAnswer p z = valued (recordNumber p) (valueOn z (p .n) (listOf p))
+
+-- the way back. A value is refused as a rank is: "each value from 0 to n! - 1 belongs to exactly one order"
+unfoldable pub permutationOfValueAnswer : ℕ → ℕ → Zero → Permuted
+permutationOfValueAnswer n v z = permuted (unrankNumber n v) (permutationOn z n v)
+
+-- with the zero as a number: one that is neither is value, after the reasons of the job itself
+unfoldable pub valueByNumberAnswer : Permutation → ℕ → Valued
+valueByNumberAnswer p k = valued (orElse (recordNumber p) (zeroNumber k)) (valueOn (numberedZero k) (p .n) (listOf p))
+
+unfoldable pub permutationByNumberAnswer : ℕ → ℕ → ℕ → Permuted
+permutationByNumberAnswer n v k = permuted (orElse (unrankNumber n v) (zeroNumber k)) (permutationOn (numberedZero k) n v)

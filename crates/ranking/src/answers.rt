@@ -10,3 +10,9 @@ pub struct Ranked {
     pub number: u8,
     pub rank: u64,
 }
+
+#[repr(C)]
+pub struct Valued {
+    pub number: u8,
+    pub value: u64,
+}

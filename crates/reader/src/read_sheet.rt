@@ -1,4 +1,5 @@
-// The sheet of bytes. The first fault met decides: everything is judged in the sequence of the bytes.
+// The sheet of bytes. The first fault met decides: everything is judged in the sequence of the bytes. A fault that a callee found is refused anew: so the compiler
+// sees at once that the sheet beside it is not used, and `bench` has no further copy of a whole sheet on its stack.
 ghost use mathlib.Core.Path.{_≡_};
 ghost use mathlib.Core.List.{map};
 ghost use Prim.Native.Nat.{_≤_};
@@ -16,17 +17,21 @@ use sheet::held::Sheet;
 use sheet::held::SheetRead;
 use sheet::held::no_entries;
 use sheet::held::no_groups;
+use sheet::held::old_zeros;
 use sheet::little::little;
+use sheet::zeros::read_zeros;
 
 fn refuse(number: u8) -> SheetRead
     ensures { λ r. ⌜ r ≡ record { number = number; sheet = heldOf noContents } ⌝ }
 {
     let list = no_groups();
+    let zeros = old_zeros();
     let entries = no_entries();
     SheetRead {
         number,
         sheet: Sheet {
             groups: Groups { count: 0, list },
+            zeros,
             count: 0,
             entries,
         },
@@ -49,7 +54,7 @@ fn sizes_of(groups: Groups) -> [usize; 64]
     sizes
 }
 
-// The commands in a row, to the sheet's end.
+// The commands in a row, and the zeros after them, to the sheet's end.
 fn read_entries(s: &[u8], from: usize, count: usize, groups: Groups) -> SheetRead
     requires { ⌜ (count ≤ 1000) × GroupsHeld groups ⌝ }
     ensures { λ r. ⌜ r ≡ sheetAnswer (meaning.commandRow (groupsIn groups) count (now (s .entry)) from) ⌝ }
@@ -69,13 +74,16 @@ fn read_entries(s: &[u8], from: usize, count: usize, groups: Groups) -> SheetRea
         at = found.next;
         i += 1;
     }
-    if at != s.len() {
-        return refuse(SHEET);
+    let last = read_zeros(s, at, total);
+    if last.number != 0 {
+        return refuse(last.number);
     }
+    let zeros = last.zeros;
     SheetRead {
         number: 0,
         sheet: Sheet {
             groups,
+            zeros,
             count,
             entries,
         },
@@ -97,7 +105,11 @@ fn read_commands(s: &[u8], at: usize, groups: Groups) -> SheetRead
     if 1000 < count {
         return refuse(SHEET);
     }
-    read_entries(s, at + 2, count, groups)
+    let rest = read_entries(s, at + 2, count, groups);
+    if rest.number != 0 {
+        return refuse(rest.number);
+    }
+    rest
 }
 
 pub fn read_sheet(bytes: &[u8]) -> SheetRead
@@ -126,5 +138,9 @@ pub fn read_sheet(bytes: &[u8]) -> SheetRead
         at = found.next;
         i += 1;
     }
-    read_commands(bytes, at, Groups { count, list })
+    let rest = read_commands(bytes, at, Groups { count, list });
+    if rest.number != 0 {
+        return refuse(rest.number);
+    }
+    rest
 }

@@ -1,5 +1,5 @@
 // A held sheet from the numbers of a line. Whatever the writer may not look at is filled with sevens, so that a look would show: groups past their count (as tied
-// ones), commands past theirs (of a group that may not be there), levels past n, and the target beside a count or a store.
+// ones, on the new zero), commands past theirs (of a group that may not be there), levels past n, and the target beside a count or a store.
 use super::numbers::Numbers;
 use super::numbers::narrow8;
 use super::numbers::narrow16;
@@ -7,10 +7,12 @@ use super::numbers::narrow32;
 use super::numbers::number_at;
 use super::numbers::past;
 use permutation::answers::Permutation;
+use ranking::zero::Zero;
 use sheet::held::Action;
 use sheet::held::Command;
 use sheet::held::Entry;
 use sheet::held::Group;
+use sheet::held::GroupZero;
 use sheet::held::Groups;
 use sheet::held::Sheet;
 
@@ -164,10 +166,31 @@ fn unseen_entries() -> [Entry; 1000] {
     [entry; 1000]
 }
 
-// How many groups, and these; how many commands, and these.
+fn zero_held(number: u64) -> GroupZero {
+    if number == 1 {
+        GroupZero { zero: Zero::New }
+    } else {
+        GroupZero { zero: Zero::Old }
+    }
+}
+
+// A number for each group: 1 is new. Any other is old here, since a held sheet has no zero that is neither.
+fn zeros_from(numbers: &Numbers, at: usize, count: usize) -> [GroupZero; 64] {
+    let unseen = zero_held(1);
+    let mut zeros = [unseen; 64];
+    let mut i: usize = 0;
+    while i < 64 && i < count {
+        zeros[i] = zero_held(number_at(numbers, past(at, i)));
+        i += 1;
+    }
+    zeros
+}
+
+// How many groups, and these; how many commands, and these; and the zeros of the groups.
 pub fn sheet_from(numbers: &Numbers, at: usize) -> Sheet {
     let held = groups_from(numbers, at);
     let groups = held.groups;
+    let total = groups.count;
     let count = number_at(numbers, held.next) as usize;
     let mut entries = unseen_entries();
     let mut next = past(held.next, 1);
@@ -179,8 +202,10 @@ pub fn sheet_from(numbers: &Numbers, at: usize) -> Sheet {
         next = command.next;
         i += 1;
     }
+    let zeros = zeros_from(numbers, next, total);
     Sheet {
         groups,
+        zeros,
         count,
         entries,
     }

@@ -14,37 +14,41 @@ pub const UNRANK: u8 = 6;
 
 pub const WALK: u8 = 7;
 
-pub const READ: u8 = 8;
+pub const VALUE_ON: u8 = 8;
 
-pub const PUSH_LEVEL: u8 = 9;
+pub const READ: u8 = 9;
 
-pub const COUNT_UP: u8 = 10;
+pub const PUSH_LEVEL: u8 = 10;
 
-pub const STORE: u8 = 11;
+pub const COUNT_UP: u8 = 11;
 
-pub const READ_SYMBOL: u8 = 12;
+pub const STORE: u8 = 12;
 
-pub const RUN_LEVELS: u8 = 13;
+pub const READ_SYMBOL: u8 = 13;
 
-pub const RUN_CALLS: u8 = 14;
+pub const RUN_LEVELS: u8 = 14;
 
-pub const REWRITE: u8 = 15;
+pub const RUN_CALLS: u8 = 15;
 
-pub const SYMBOLS: u8 = 16;
+pub const REWRITE: u8 = 16;
 
-pub const PREFIX: u8 = 17;
+pub const SYMBOLS: u8 = 17;
 
-pub const WRITE: u8 = 18;
+pub const PREFIX: u8 = 18;
 
-pub const READ_BANDS: u8 = 19;
+pub const WRITE: u8 = 19;
 
-pub const READ_SYMBOL_BANDS: u8 = 20;
+pub const READ_BANDS: u8 = 20;
 
-pub const REACH: u8 = 21;
+pub const READ_SYMBOL_BANDS: u8 = 21;
 
-pub const REACH_SUM: u8 = 22;
+pub const REACH: u8 = 22;
 
-pub const NO_JOB: u8 = 23;
+pub const REACH_SUM: u8 = 23;
+
+pub const OF_VALUE: u8 = 24;
+
+pub const NO_JOB: u8 = 25;
 
 // A space past the line.
 fn letter(line: &[u8], i: usize) -> u8 {
@@ -120,6 +124,8 @@ pub fn job_of(line: &[u8]) -> u8 {
         b'd' => DIGITS,
         b'u' => UNRANK,
         b'c' => COUNT_UP,
+        b'v' => VALUE_ON,
+        b'o' => OF_VALUE,
         b'p' => job_of_p(letter(line, 1), letter(line, 4)),
         b'r' => job_of_r(line),
         b's' => job_of_s(letter(line, 1)),

@@ -3,6 +3,7 @@ ghost use Prim.Native.Nat.{_≤_};
 use super::band_jobs::on_bands;
 use super::job_names::DIGITS;
 use super::job_names::NO_JOB;
+use super::job_names::OF_VALUE;
 use super::job_names::PREFIX;
 use super::job_names::PUSH;
 use super::job_names::RANK;
@@ -17,6 +18,7 @@ use super::job_names::RUN_STEPS;
 use super::job_names::SUCCESSOR;
 use super::job_names::SYMBOLS;
 use super::job_names::UNRANK;
+use super::job_names::VALUE_ON;
 use super::job_names::WALK;
 use super::job_names::WRITE;
 use super::job_names::job_of;
@@ -38,6 +40,8 @@ use super::text::permuted;
 use super::text::put;
 use super::text::words;
 use super::text::write;
+use super::value_jobs::on_of_value;
+use super::value_jobs::valued;
 use super::walk::walk;
 use super::writing_job::on_write;
 use permutation::answers::Permutation;
@@ -71,6 +75,7 @@ fn on_permutation(
         PUSH => permuted(text, at, push(permutation, a as usize)),
         RUN_STEPS => ran(text, at, permutation, a),
         UNRANK => permuted(text, at, unrank(a as usize, b)),
+        VALUE_ON => valued(text, at, permutation, a),
         _ => walk(text, at, permutation, a, b),
     }
 }
@@ -89,6 +94,7 @@ fn reply(text: &mut Text, at: usize, job: u8, numbers: &Numbers, count: usize) -
         WRITE => on_write(text, at, numbers),
         READ_BANDS..=READ_SYMBOL_BANDS => on_bands(text, at, job, numbers, count),
         REACH..=REACH_SUM => on_reach(text, at, job, numbers, count),
+        OF_VALUE => on_of_value(text, at, numbers),
         _ => on_levels(text, at, job, numbers, count),
     }
 }

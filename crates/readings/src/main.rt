@@ -10,6 +10,7 @@ mod numbers; // the numbers of a line
 mod reach_jobs; // the permutations within reach
 mod rewriting_jobs; // rewriting, all symbols of a code, the prefix of one
 mod text; // text in a lent buffer
+mod value_jobs; // values, and the permutations of values
 mod walk; // a long walk along the cycle
 mod writing_job; // a held sheet written
 

@@ -11,10 +11,13 @@ use lib.Seq.{take-all, take-length}
 use Rattle.theory.specs.Reasons.{done, fit}
 use Rattle.theory.specs.Levels.{highest, permutationOf}
 use Rattle.theory.specs.CountUp.{callNumber, callPushes, callLevels}
-use Rattle.theory.specs.Run.{stepLevels, afterCalls, callNumbers, stepsDone}
+use Rattle.theory.specs.Rank.{rank}
+use Rattle.theory.specs.Run.{pushCount, stepLevels, afterCalls, callNumbers, stepsDone}
 use Rattle.theory.specs.Spent.{Spends, callCharge, callsCharge}
 use Rattle.theory.specs.Demand3.{Start, Demand3}
-use Rattle.theory.proofs.Refusal.{refused, answered}
+use Rattle.theory.proofs.Refusal.{refused, answered, Readable}
+use Rattle.theory.proofs.Sorting.{reads-permutationOf, reads-untied}
+use Rattle.theory.proofs.LevelRun.{run-reads}
 use Rattle.theory.proofs.FilledRow.{filled-all}
 use Rattle.theory.proofs.InTurn.{added-next, InTurn, turn-none, turn-more, turn-left}
 use Rattle.theory.proofs.CallLists.{after-next, numbers-long, after-length, number-at, steps-fit}
@@ -23,8 +26,10 @@ use Rattle.theory.proofs.Demand3.{demand3}
 use Rattle.charge.specs.Answers.{noPushes, donePushes, callAnswer}
 use Rattle.charge.specs.declared.answers.Pushes.{Pushes}
 use Rattle.charge.proofs.Numbers.{pushes-refused, pushes-done}
+use Rattle.runs.specs.Steps.{RunOf}
 use Rattle.runs.specs.Calls.{callsNumber, callsAnswer, calledLevels, calledNumbers, sumDone, CallsOf}
 use Rattle.runs.proofs.Running.{run-of}
+use Rattle.runs.proofs.LevelRunning.{run-values}
 
 -- the steps that the first i calls did are those of the ones with number 0
 sum-done : (i : ℕ) (ks L rest : List ℕ) → stepsDone (take i ks) L ≡ sumDone (take i ks) (callNumbers ks L ++ rest)
@@ -122,9 +127,8 @@ module _ {L ks numbers₀ : List ℕ} {i : ℕ} {levels numbers : List ℕ} {pus
     sum = subst (λ (js : List ℕ). stepsDone js L ≡ sumDone js numbers) (take-length ks) (so-far (length ks));
     levels = d .levels L start ks;
     highest-level = d .highest-level L start ks;
-    run =
-        run-of (length L) few (permutationOf L) (d .level-start L start) (stepsDone ks L) (permutationOf (afterCalls ks L)) _ _ (d .read L start ks)
-        refl (λ c low high. refl);
+    run = ran;
+    value-read = run-values (record { few = few; many = start .few; untied = start .untied }) still ran;
     start = d .level-start L start;
     call-done = λ i h room.
         let done = d .call-done L start (take i ks) (getD ks i 0) room in
@@ -143,6 +147,19 @@ module _ {L ks numbers₀ : List ℕ} {i : ℕ} {levels numbers : List ℕ} {pus
     where
       d : Demand3 (length L)
       d = demand3 (length L) few
+
+      ran :
+          RunOf (length L) (permutationOf L) (stepsDone ks L) (permutationOf (afterCalls ks L)) (rank (length L) (permutationOf (afterCalls ks L)))
+          (λ c. pushCount (length L) c (stepsDone ks L) (permutationOf L))
+      ran =
+          run-of (length L) few (start .few) (permutationOf L) (d .level-start L start) (stepsDone ks L) (permutationOf (afterCalls ks L)) _ _ (d .read L start ks)
+          refl (λ c low high. refl)
+
+      still : Readable (afterCalls ks L)
+      still =
+          let size = after-length ks L in
+          let reads = run-reads (length L) few L (permutationOf L) refl (reads-permutationOf L (start .untied)) (stepsDone ks L) in
+          record { few = omega (arith, few); many = omega (arith, start .few); untied = rw (d .levels L start ks) (reads-untied reads) }
 
       so-far : (i : ℕ) → stepsDone (take i ks) L ≡ sumDone (take i ks) numbers
       so-far i = rw numbers-all (sum-done i ks L (drop (length ks) numbers₀))

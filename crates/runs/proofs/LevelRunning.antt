@@ -1,11 +1,12 @@
 -- A run of steps on levels: what holds when some of them were done, their charge too, and demand 3 of the whole. Assumes nothing.
 use mathlib.Core.Path.{_≡_, refl, sym, ap, ap₂, _∙_}
 use mathlib.Core.List.{List}
-use Prim.Native.Nat.{ℕ, zero, suc, _+_, _-_, _≤_, _<_, max}
+use Prim.Native.Nat.{ℕ, zero, suc, _+_, _-_, _%_, _≤_, _<_, max}
 use native.Mathlib.Omega.{arith}
 use native.Mathlib.Numerals.{add-one}
 use borrow.Author.Tests.{ne-eqb}
 use lib.ListN.{length, getD, set, replicate}
+use Rattle.theory.specs.Factorial.{factorial}
 use Rattle.theory.specs.Permutation.{IsPermutation, row, top}
 use Rattle.theory.specs.Rank.{rank}
 use Rattle.theory.specs.Levels.{highest, topLessBottom, Gapless, readNumber, permutationOf, ReadsAs, pushLevel, jump}
@@ -21,11 +22,12 @@ use Rattle.theory.proofs.Demand3.{demand3}
 use Rattle.ranking.specs.Answers.{rankAnswer}
 use Rattle.permutation.specs.declared.answers.Permutation.{Permutation}
 use Rattle.ranking.specs.declared.answers.Ranked.{Ranked}
+use Rattle.ranking.specs.declared.zero.Zero.{Zero}
 use Rattle.ranking.proofs.Values.{ranked-record}
 use Rattle.charge.specs.Answers.{readAnswer}
 use Rattle.theory.proofs.Refusal.{orElse-done, Readable, readable, ceiling-room}
-use Rattle.runs.specs.Steps.{pushCounts, countIn}
-use Rattle.runs.specs.LevelSteps.{levelsAfter, widest, largestRaise, noRun, levelRunAnswer, LevelsOf}
+use Rattle.runs.specs.Steps.{pushCounts, countIn, RunOf}
+use Rattle.runs.specs.LevelSteps.{levelsAfter, valueRead, widest, largestRaise, noRun, levelRunAnswer, LevelsOf}
 use Rattle.runs.specs.declared.answers.RanLevels.{RanLevels}
 use Rattle.runs.proofs.PushCounts.{Tallied, tallied, counts-none, counts-at}
 use Rattle.runs.proofs.Running.{run-of}
@@ -38,6 +40,12 @@ pub record RunningLevels (L : List ℕ) (done : ℕ) (levels counts : List ℕ) 
   pub widest-is : wide ≡ widest done L
   pub largest-is : large ≡ largestRaise done L
   pub spent : Spends L levels charge
+
+-- the values of what is read before and after a run
+pub run-values : {L : List ℕ} {k : ℕ} {L′ : List ℕ} {r : ℕ} {counts : ℕ → ℕ} → Readable L → Readable L′
+    → RunOf (length L) (permutationOf L) k (permutationOf L′) r counts
+    → (z : Zero) → valueRead L′ z ≡ record { number = 0; value = (valueRead L z .value + k) % factorial (length L) }
+run-values before after run z = rw (reading-record before, reading-record after) (run .value-answers z)
 
 -- a call by k would be done on L
 module _ (L : List ℕ) (k : ℕ) (g : callNumber k L ≡ 0) where
@@ -172,6 +180,11 @@ module _ (L : List ℕ) (k : ℕ) (g : callNumber k L ≡ 0) where
     unfolding levelRunAnswer
     ran-levels-left = rw (charge-is, g, calling k L .counted g .0, v .counted, v .widest-is, v .largest-is, is, counted-up)
 
+    ran : RunOf (length L) (permutationOf L) k (permutationOf levels) r (countIn counts)
+    ran =
+        run-of (length L) few many (permutationOf L) start k (permutationOf levels) r (countIn counts)
+        (ap permutationOf (v .levels-are) ∙ reads-is (reads-after k)) is (counts-at (length L) few many (permutationOf L) k counts (v .counted))
+
     pub levels-of : LevelsOf L k levels answer
     levels-of = record {
       pushes = refl;
@@ -179,9 +192,8 @@ module _ (L : List ℕ) (k : ℕ) (g : callNumber k L ≡ 0) where
       stepped = v .levels-are;
       highest-level = ap highest (v .levels-are) ∙ highest-after k;
       start = start;
-      run =
-          run-of (length L) few (permutationOf L) start k (permutationOf levels) r (countIn counts)
-          (ap permutationOf (v .levels-are) ∙ reads-is (reads-after k)) is (counts-at (length L) few many (permutationOf L) k counts (v .counted));
+      run = ran;
+      value-read = run-values (readable (past .0)) still ran;
       gap = λ gapless. rw (v .widest-is) (widest-bound gapless k);
       jumps = λ gapless. rw (v .largest-is) (largest-bound gapless k);
     }

@@ -1,7 +1,7 @@
 -- A run of steps: what holds when some of them were done, and demand 3 of the whole. Assumes nothing.
 use mathlib.Core.Path.{_≡_, sym, ap, ap₂, _∙_}
 use mathlib.Core.List.{List}
-use Prim.Native.Nat.{ℕ, suc, _+_, _-_, _≤_}
+use Prim.Native.Nat.{ℕ, suc, _+_, _-_, _%_, _≤_}
 use native.Mathlib.Omega.{arith}
 use native.Mathlib.Numerals.{add-one}
 use borrow.Author.Tests.{ne-eqb}
@@ -9,10 +9,13 @@ use lib.ListN.{length, getD, set, replicate}
 use Rattle.theory.specs.Permutation.{IsPermutation, row, top}
 use Rattle.theory.specs.Successor.{successor, step}
 use Rattle.theory.specs.Rank.{rank}
+use Rattle.theory.specs.Factorial.{factorial}
+use Rattle.theory.specs.Zero.{valueFrom}
 use Rattle.theory.specs.Run.{steps, pushCount}
 use Rattle.theory.specs.Demand3.{Demand3}
 use Rattle.theory.proofs.Padding.{row-at}
 use Rattle.theory.proofs.Stepping.{stepping}
+use Rattle.theory.proofs.Zero.{valuing}
 use Rattle.theory.proofs.Demand3.{demand3}
 use Rattle.permutation.specs.Records.{listOf, recordOf, recordNumber}
 use Rattle.permutation.specs.Answers.{successorAnswer, pushAnswer}
@@ -23,19 +26,22 @@ use Rattle.permutation.specs.declared.answers.Placed.{Placed}
 use Rattle.ranking.specs.declared.answers.Ranked.{Ranked}
 use Rattle.permutation.proofs.Records.{Sound}
 use Rattle.permutation.proofs.Answering.{placed-record, pushed-record, list-record}
-use Rattle.ranking.proofs.Values.{ranked-record}
+use Rattle.ranking.specs.Zeros.{zeroPermutation}
+use Rattle.ranking.proofs.Values.{ranked-record, valued-record}
 use Rattle.runs.specs.Steps.{pushCounts, runAnswer, countIn, RunOf}
 use Rattle.runs.specs.declared.answers.Ran.{Ran}
 use Rattle.runs.proofs.PushCounts.{Tallied, tallied, counts-none, counts-at}
 
 -- demand 3 of the list that k steps lead to
-pub run-of : (n : ℕ) → 2 ≤ n → (xs : List ℕ) → IsPermutation n xs → (k : ℕ) (ys : List ℕ) (r : ℕ) (counts : ℕ → ℕ)
+pub run-of : (n : ℕ) → 2 ≤ n → n ≤ 20 → (xs : List ℕ) → IsPermutation n xs → (k : ℕ) (ys : List ℕ) (r : ℕ) (counts : ℕ → ℕ)
     → ys ≡ steps n k xs → r ≡ rank n ys → ((c : ℕ) → 1 ≤ c → c ≤ n → counts c ≡ pushCount n c k xs) → RunOf n xs k ys r counts
-run-of n few xs o k ys r counts end rank-of count-of = record {
+run-of n few many xs o k ys r counts end rank-of count-of = record {
   run = end;
-  permutation = rw end (d .permutation xs o k);
+  permutation = after;
   rank-now = rank-of;
   ranks = rank-of ∙ rw end (d .ranks xs o k);
+  values = valued;
+  value-answers = λ z. valued-record n ys few many after z ∙ rw (valued-record n xs few many o z, valued (zeroPermutation z n));
   different = λ i j less within below. d .different xs o i j less below;
   return = λ whole. end ∙ ap (λ (j : ℕ). steps n j xs) whole ∙ d .return xs o;
   pushes = count-of;
@@ -47,6 +53,12 @@ run-of n few xs o k ys r counts end rank-of count-of = record {
   where
     d : Demand3 n
     d = demand3 n few
+
+    after : IsPermutation n ys
+    after = rw end (d .permutation xs o k)
+
+    valued : (z : List ℕ) → valueFrom n z ys ≡ (valueFrom n z xs + k) % factorial n
+    valued z = rw end (valuing n z few .counted xs o k)
 
 -- `done` steps of the run from p lead to this record, with these counts
 pub record Running (p : Permutation) (done : ℕ) (current : Permutation) (counts : List ℕ) : Type 0 where
@@ -114,7 +126,7 @@ module _ (p : Permutation) (s : Sound p) where
 
     pub run-record : RunOf (p .n) (listOf p) k (listOf current) r (countIn counts)
     run-record =
-        run-of (p .n) (s .few) (listOf p) (s .permutation) k (listOf current) r (countIn counts)
+        run-of (p .n) (s .few) (s .many) (listOf p) (s .permutation) k (listOf current) r (countIn counts)
         end (rank-is ∙ ap (rank (p .n)) (sym end)) (counts-at (p .n) (s .few) (s .many) (listOf p) k counts (v .counted))
 
 -- a record that is no permutation's

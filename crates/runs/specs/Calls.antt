@@ -2,10 +2,11 @@
 use mathlib.Core.Path.{_≡_}
 use mathlib.Core.Bool.{cond}
 use mathlib.Core.List.{List, [], _∷_, _++_}
-use Prim.Native.Nat.{ℕ, suc, _+_, _≤_, _<_}
+use Prim.Native.Nat.{ℕ, suc, _+_, _%_, _≤_, _<_}
 use lib.Dec.{eqb, leb}
 use lib.ListN.{length, getD, take, drop}
 use Rattle.theory.specs.Reasons.{done, fit}
+use Rattle.theory.specs.Factorial.{factorial}
 use Rattle.theory.specs.Permutation.{IsPermutation, top}
 use Rattle.theory.specs.Rank.{rank}
 use Rattle.theory.specs.Levels.{highest, topLessBottom, Gapless, permutationOf, jump}
@@ -14,10 +15,11 @@ use Rattle.theory.specs.Run.{steps, pushCount, afterCalls, callNumbers, stepsDo
 use Rattle.theory.specs.Spent.{callsCharge}
 use Rattle.theory.specs.Demand3.{Done, Refused}
 use Rattle.theory.specs.Refusal.{given}
+use Rattle.ranking.specs.declared.zero.Zero.{Zero}
 use Rattle.charge.specs.Answers.{pushesOf}
 use Rattle.charge.specs.declared.answers.Pushes.{Pushes}
 use Rattle.runs.specs.Steps.{RunOf}
-use Rattle.runs.specs.LevelSteps.{levelsAfter}
+use Rattle.runs.specs.LevelSteps.{levelsAfter, valueRead}
 
 -- done, whatever numbers the calls get, where there is a place for each of those numbers; otherwise fit, before anything else is judged
 abbrev pub callsNumber : List ℕ → List ℕ → ℕ
@@ -54,6 +56,8 @@ pub record CallsOf (L ks L′ numbers : List ℕ) (K : ℕ) : Type 0 where
   pub run :
       RunOf (length L) (permutationOf L) K (permutationOf L′) (rank (length L) (permutationOf L′))
       (λ c. pushCount (length L) c K (permutationOf L))
+  -- document 02, request 7: so the value read from L′ is the start's plus K, modulo n!, on the old zero and on the new
+  pub value-read : (z : Zero) → valueRead L′ z ≡ record { number = 0; value = (valueRead L z .value + K) % factorial (length L) }
   -- call i is "done, with number 0 and k pushes, exactly when the top standing then plus k is at most 65,535. Otherwise it gives number 6 and 0 pushes,
   -- and the list stays as it was"
   pub call-done :

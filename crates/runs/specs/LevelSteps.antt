@@ -1,8 +1,9 @@
 -- A run of steps on levels: its answer, and demand 3 of it. Assumes nothing.
 use mathlib.Core.Path.{_≡_}
 use mathlib.Core.List.{List, []}
-use Prim.Native.Nat.{ℕ, zero, suc, _+_, _≤_, max}
+use Prim.Native.Nat.{ℕ, zero, suc, _+_, _%_, _≤_, max}
 use lib.ListN.{length}
+use Rattle.theory.specs.Factorial.{factorial}
 use Rattle.theory.specs.Permutation.{IsPermutation, row, top}
 use Rattle.theory.specs.Rank.{rank}
 use Rattle.theory.specs.Levels.{highest, topLessBottom, Gapless, permutationOf, jump}
@@ -10,12 +11,20 @@ use Rattle.theory.specs.CountUp.{countUp, callNumber, callPushes}
 use Rattle.theory.specs.Run.{steps, stepLevels}
 use Rattle.theory.specs.Spent.{callCharge}
 use Rattle.theory.specs.Refusal.{given}
+use Rattle.ranking.specs.Answers.{valueAnswer}
+use Rattle.ranking.specs.declared.answers.Valued.{Valued}
+use Rattle.ranking.specs.declared.zero.Zero.{Zero}
+use Rattle.charge.specs.Answers.{readAnswer}
 use Rattle.runs.specs.Steps.{pushCounts, countIn, RunOf}
 use Rattle.runs.specs.declared.answers.RanLevels.{RanLevels}
 
 -- the levels after k steps from L, "each push made on the levels too"
 abbrev pub levelsAfter : ℕ → List ℕ → List ℕ
 levelsAfter k L = stepLevels (length L) k (permutationOf L) L
+
+-- what the job `value` answers for what the job `read` gives of L
+abbrev pub valueRead : List ℕ → Zero → Valued
+valueRead L z = valueAnswer (readAnswer L .permutation) z
 
 -- the widest top less bottom after any of the steps 1 to k
 unfoldable pub widest : ℕ → List ℕ → ℕ
@@ -53,6 +62,8 @@ pub record LevelsOf (L : List ℕ) (k : ℕ) (L′ : List ℕ) (r : RanLevels) :
   -- the permutation read from them, its rank, and the push counts
   pub start : IsPermutation (length L) (permutationOf L)
   pub run : RunOf (length L) (permutationOf L) k (permutationOf L′) (r .rank) (countIn (r .counts))
+  -- document 02, request 7: so the value read from L′ is the start's plus k, modulo n!, on the old zero and on the new
+  pub value-read : (z : Zero) → valueRead L′ z ≡ record { number = 0; value = (valueRead L z .value + k) % factorial (length L) }
   -- from levels without a gap, over all k steps: top less bottom is at most n, and no push raises a cell by more than n + 1
   pub gap : Gapless L → r .widest ≤ length L
   pub jumps : Gapless L → r .largest ≤ length L + 1

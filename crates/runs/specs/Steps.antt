@@ -7,10 +7,13 @@ use Rattle.theory.specs.Lists.{names}
 use Rattle.theory.specs.Factorial.{factorial}
 use Rattle.theory.specs.Permutation.{IsPermutation, row}
 use Rattle.theory.specs.Rank.{rank}
+use Rattle.theory.specs.Zero.{valueFrom}
 use Rattle.theory.specs.Run.{steps, pushCount}
 use Rattle.permutation.specs.Records.{listOf, recordOf, recordNumber}
 use Rattle.theory.specs.Refusal.{given}
 use Rattle.permutation.specs.declared.answers.Permutation.{Permutation}
+use Rattle.ranking.specs.Answers.{valueAnswer}
+use Rattle.ranking.specs.declared.zero.Zero.{Zero}
 use Rattle.runs.specs.declared.answers.Ran.{Ran}
 
 -- the push counts of the cells 1 to n after k steps
@@ -37,6 +40,11 @@ pub record RunOf (n : ℕ) (xs : List ℕ) (k : ℕ) (ys : List ℕ) (r : ℕ) (
   pub permutation : IsPermutation n ys
   pub rank-now : r ≡ rank n ys
   pub ranks : r ≡ (rank n xs + k) % factorial n
+  -- document 02, request 7: "Any k steps add k to the value modulo n!", with any zero z; and so of what the job `value` answers for the records of xs and ys, on the
+  -- old zero and on the new
+  pub values : (z : List ℕ) → valueFrom n z ys ≡ (valueFrom n z xs + k) % factorial n
+  pub value-answers :
+      (z : Zero) → valueAnswer (recordOf ys) z ≡ record { number = 0; value = (valueAnswer (recordOf xs) z .value + k) % factorial n }
   pub different : (i j : ℕ) → i < j → j ≤ k → j < factorial n → steps n i xs ≡ steps n j xs → ⊥
   pub return : k ≡ factorial n → ys ≡ xs
   pub pushes : (c : ℕ) → 1 ≤ c → c ≤ n → counts c ≡ pushCount n c k xs

@@ -9,11 +9,13 @@ use borrow.Author.Tests.{le-leb, lt-leb, lt-ltb, le-ltb, eq-eqb, ne-eqb}
 use lib.ListN.{length, getD, take, drop}
 use Rattle.theory.specs.Reasons.{sized}
 use Rattle.theory.specs.Levels as levels
-use Rattle.theory.proofs.Cases.{by-le}
+use Rattle.theory.proofs.Cases.{by-le, by-test}
 use Rattle.sheet.specs.Bytes.{Fault, missized, tied, ill-formed, fault, got, after, check, many, little}
+use Rattle.sheet.specs.ZeroSection.{rising, namedGroups, section, zerosOf, zerosAt}
 use Rattle.sheet.specs.Sheet.{group, entry, countAt, rewriteAt, storeAt, bodyAt, command, commandRow, commands, sheet}
 use Rattle.sheet.specs.Parts.{numbers}
 use Rattle.sheet.specs.declared.held.Action.the-variants.{Count, Rewrite, Store}
+use Rattle.sheet.specs.declared.held.GroupZero.{GroupZero}
 use Rattle.sheet.specs.declared.held.Entry.{Entry}
 use Rattle.sheet.proofs.ByteNumbers.{number-there, number-short, byte-there, row-there, row-short}
 
@@ -124,6 +126,49 @@ module _ (sizes s : List ℕ) (at : ℕ) where
       unfolding command after check
       command-body h = rw (byte-there s at here, byte-there s (at + 1) there, lt-ltb _ _ h)
 
+-- ---- the zeros
+
+module _ (G : ℕ) (s : List ℕ) (at : ℕ) where
+  pub zeros-none : at ≡ length s → zerosAt G s at ≡ got (zerosOf G []) at
+  unfolding zerosAt section after check
+  zeros-none e = rw (eq-eqb at (length s) e, eq-eqb at (length s) e)
+
+  pub zeros-beyond : length s < at → zerosAt G s at ≡ fault ill-formed
+  unfolding zerosAt section namedGroups after
+  zeros-beyond h = rw (ne-eqb at (length s) (λ e. omega arith), number-short s 1 at (omega arith))
+
+  module _ (n : ℕ) (here : at < length s) (is : n ≡ getD s at 0) where
+    pub zeros-few : n < 1 → zerosAt G s at ≡ fault ill-formed
+    unfolding zerosAt section namedGroups after check
+    zeros-few h = rw (ne-eqb at (length s) (λ e. omega arith), byte-there s at here, ← is, lt-leb _ _ h)
+
+    module _ (some : 1 ≤ n) where
+      pub zeros-many : G < n → zerosAt G s at ≡ fault ill-formed
+      unfolding zerosAt section namedGroups after check
+      zeros-many h = rw (ne-eqb at (length s) (λ e. omega arith), byte-there s at here, ← is, le-leb _ _ some, lt-leb _ _ h)
+
+      module _ (few : n ≤ G) where
+        -- an early end, or bytes after the last number
+        pub zeros-unended : (length s ≡ at + 1 + n → ⊥) → zerosAt G s at ≡ fault ill-formed
+        unfolding zerosAt section namedGroups after check
+        zeros-unended ne =
+            rw (ne-eqb at (length s) (λ e. omega arith), byte-there s at here, ← is, le-leb _ _ some, le-leb _ _ few)
+            (by-le (at + 1 + 1 * n) (length s)
+            (λ there.
+            rw (row-there s 1 n (at + 1) there) (by-test (rising G 0 (numbers 1 n s (at + 1)))
+            (λ t. rw (t, ne-eqb (at + 1 + 1 * n) (length s) (λ e. ne (omega arith))))
+            (λ t. rw t)))
+            (λ short. rw (row-short s 1 n (at + 1) (omega arith) short)))
+
+        pub zeros-row : length s ≡ at + 1 + n
+            → zerosAt G s at ≡ check (rising G 0 (numbers 1 n s (at + 1))) ill-formed (got (zerosOf G (numbers 1 n s (at + 1))) (at + 1 + 1 * n))
+        unfolding zerosAt section namedGroups after check
+        zeros-row long =
+            rw (ne-eqb at (length s) (λ e. omega arith), byte-there s at here, ← is, le-leb _ _ some, le-leb _ _ few, row-there s 1 n (at + 1) (omega arith))
+            (by-test (rising G 0 (numbers 1 n s (at + 1)))
+            (λ t. rw (t, eq-eqb (at + 1 + 1 * n) (length s) (omega arith)))
+            (λ t. rw t))
+
 -- ---- the commands
 
 module _ (groups : List (List ℕ)) (s : List ℕ) (at : ℕ) where
@@ -132,14 +177,15 @@ module _ (groups : List (List ℕ)) (s : List ℕ) (at : ℕ) where
     unfolding commandRow after
     row-fault f bad = rw bad
 
-    module _ (entries : List Entry) (end : ℕ) (good : many n (command (map length groups) s) at ≡ got entries end) where
-      pub row-more : (end ≡ length s → ⊥) → commandRow groups n s at ≡ fault ill-formed
-      unfolding commandRow after check
-      row-more d = rw (good, ne-eqb _ _ d)
+    module _ (entries : List Entry) (next : ℕ) (good : many n (command (map length groups) s) at ≡ got entries next) where
+      pub row-bad : (f : Fault) → zerosAt (length groups) s next ≡ fault f → commandRow groups n s at ≡ fault f
+      unfolding commandRow after
+      row-bad f bad = rw (good, bad)
 
-      pub row-ends : end ≡ length s → commandRow groups n s at ≡ got (record { groups = groups; entries = entries }) end
-      unfolding commandRow after check
-      row-ends d = rw (good, eq-eqb _ _ d)
+      pub row-ends : (zeros : List GroupZero) (end : ℕ) → zerosAt (length groups) s next ≡ got zeros end
+          → commandRow groups n s at ≡ got (record { groups = groups; zeros = zeros; entries = entries }) end
+      unfolding commandRow after
+      row-ends zeros end read = rw (good, read)
 
   pub commands-short : length s < at + 2 → commands groups s at ≡ fault ill-formed
   unfolding commands after

@@ -4,10 +4,11 @@ use Prim.Native.Nat.{ℕ}
 use native.Mathlib.Omega.{arith}
 use Rattle.sheet.specs.Bytes.{Fault, missized, tied, ill-formed, numberOf, Got, fault, got}
 use Rattle.sheet.specs.Held.{sheetAnswer}
-use Rattle.sheet.specs.Parts.{groupAnswer, entryAnswer}
+use Rattle.sheet.specs.Parts.{groupAnswer, entryAnswer, zerosAnswer}
 use Rattle.sheet.specs.declared.held.SheetRead.{SheetRead}
 use Rattle.sheet.specs.declared.groups.GroupRead.{GroupRead}
 use Rattle.sheet.specs.declared.commands.EntryRead.{EntryRead}
+use Rattle.sheet.specs.declared.zeros.ZerosRead.{ZerosRead}
 
 -- no fault has the number 0
 pub fault-number : (f : Fault) → numberOf f ≡ 0 → ⊥
@@ -27,6 +28,10 @@ group-tells-fault = record { bad = λ f. refl; good = λ L end. refl }
 pub entry-tells-fault : TellsFault (λ (r : EntryRead). r .number) entryAnswer
 unfolding entryAnswer
 entry-tells-fault = record { bad = λ f. refl; good = λ e end. refl }
+
+pub zeros-tells-fault : TellsFault (λ (r : ZerosRead). r .number) zerosAnswer
+unfolding zerosAnswer
+zeros-tells-fault = record { bad = λ f. refl; good = λ zeros end. refl }
 
 pub sheet-tells-fault : TellsFault (λ (r : SheetRead). r .number) sheetAnswer
 unfolding sheetAnswer

@@ -8,12 +8,14 @@ use lib.Seq.{take-at, take-append-seam}
 use Rattle.theory.specs.Lists.{padded}
 use Rattle.theory.proofs.Padding.{padded-map-at}
 use Rattle.sheet.specs.Bytes.{got, many}
+use Rattle.sheet.specs.ZeroSection.{onOld}
 use Rattle.sheet.specs.Sheet.{group, Contents}
 use Rattle.sheet.specs.Held.{groupOf, noGroup, groupsOf, noEntry, heldOf, levelsOf, groupsIn, contentsOf}
 use Rattle.sheet.specs.Claims.{Each}
 use Rattle.sheet.specs.Standing.{GroupsHeld}
 use Rattle.sheet.specs.declared.held.Group.{Group}
 use Rattle.sheet.specs.declared.held.Groups.{Groups}
+use Rattle.sheet.specs.declared.held.GroupZero.{GroupZero}
 use Rattle.sheet.specs.declared.held.Entry.{Entry}
 use Rattle.sheet.specs.declared.held.Sheet.{Sheet}
 use Rattle.sheet.proofs.Inversion.{many-length}
@@ -31,9 +33,9 @@ levels-back (L ∷ Ls) = rw (group-levels L, levels-back Ls)
 pub groups-back : (Ls : List (List ℕ)) → groupsIn (groupsOf Ls) ≡ Ls
 groups-back Ls = rw (take-at (map groupOf Ls) _ (length Ls) (length-map Ls groupOf)) (levels-back Ls)
 
-pub contents-back : (c : Contents) → contentsOf (heldOf c) ≡ c
+pub contents-back : (c : Contents) → length (c .zeros) ≡ length (c .groups) → contentsOf (heldOf c) ≡ c
 unfolding heldOf
-contents-back c = rw (groups-back (c .groups), take-append-seam (c .entries) _)
+contents-back c long = rw (groups-back (c .groups), take-at (c .zeros) _ _ long, take-append-seam (c .entries) _)
 
 -- ---- groups in their row
 
@@ -69,7 +71,7 @@ module _ {groups : Groups} (h : GroupsHeld groups) where
   sizes-front = take-at (map length (groupsIn groups)) _ (groups .count) (map-count length)
 
   -- the sheet that is held, from its parts
-  pub sheet-held : (n : ℕ) (row es : List Entry) → length es ≡ n → row ≡ padded 1000 noEntry es
-      → _≡_ {A = Sheet} (record { groups = groups; count = n; entries = row }) (heldOf (record { groups = groupsIn groups; entries = es }))
+  pub sheet-held : (zs zeros : List GroupZero) → zs ≡ padded 64 onOld zeros → (n : ℕ) (row es : List Entry) → length es ≡ n → row ≡ padded 1000 noEntry es
+      → _≡_ {A = Sheet} (record { groups = groups; zeros = zs; count = n; entries = row }) (heldOf (record { groups = groupsIn groups; zeros = zeros; entries = es }))
   unfolding heldOf
-  sheet-held n row es long front = λ i. record { groups = h .held i; count = sym long i; entries = front i }
+  sheet-held zs zeros are n row es long front = λ i. record { groups = h .held i; zeros = are i; count = sym long i; entries = front i }

@@ -1,6 +1,7 @@
 -- The proofs of the claims, and the laws that the proofs of the functions share.
 pub mod Inversion
 pub mod ByKind
+pub mod ZeroSection
 pub mod Valid
 pub mod InMemory
 pub mod Longest

@@ -1,6 +1,6 @@
 -- How far a reader reads at most, and that only the bytes so far count: the longest sheet, and that its bytes and one more decide. Assumes nothing.
 use mathlib.Core.Path.{_≡_, refl, ap}
-use mathlib.Core.Bool.{Bool, true, false, not, _&&_, and-eq-true-iff}
+use mathlib.Core.Bool.{Bool, true, false, not, cond, _&&_, and-eq-true-iff}
 use mathlib.Core.List.{List, [], _∷_, map}
 use Prim.Native.Nat.{ℕ, zero, suc, _+_, _*_, _≤_, _<_}
 use native.Mathlib.Omega.{arith}
@@ -10,12 +10,13 @@ use lib.ListN.{length, getD, take, drop}
 use lib.Seq.{length-take-le, take-all, take-take}
 use Rattle.theory.specs.Reasons.{sized}
 use Rattle.theory.specs.Levels.{tied}
-use Rattle.theory.proofs.Cases.{by-le}
+use Rattle.theory.proofs.Cases.{by-le, by-name}
 use Rattle.sheet.specs.Bytes.{Fault, missized, tied as fault-tied, ill-formed, Got, fault, got, after, check, many, number}
+use Rattle.sheet.specs.ZeroSection.{rising, namedGroups, section, zerosOf, zerosAt}
 use Rattle.sheet.specs.Sheet.{group, countAt, rewriteAt, storeAt, bodyAt, command, Contents, commandRow, commands, sheet}
 use Rattle.sheet.specs.Claims.{longestSheet}
 use Rattle.sheet.specs.Parts.{Small}
-use Rattle.sheet.proofs.Inversion.{never, after-got, check-got}
+use Rattle.sheet.proofs.Inversion.{never, after-got, check-got, many-length}
 use Rattle.sheet.proofs.ByKind.{by-kind}
 use Rattle.sheet.proofs.Valid.{groups-readable, valid, small}
 
@@ -48,6 +49,18 @@ local-end x = record {
   near = λ s at y end e. (let last = check-got (eqb at (length s)) _ _ e .1 in let is : end ≡ at = cc in omega arith);
   same = λ N s at long inside.
       rw (ne-eqb at (length (take N s)) (λ e. omega (arith, length-take-le N s long)), ne-eqb at (length s) (λ e. omega arith));
+}
+
+-- nothing at the end of the whole, and what p reads anywhere else
+local-unless-end : {A : Type 0} {p : Reader A} {w : ℕ} (x : A) → Local p w → Local (λ s at. cond (eqb at (length s)) (got x at) (p s at)) w
+local-unless-end {p} x l = record {
+  near = λ s at y end.
+      by-name at (length s)
+      (λ is t. rw t (λ e. (let same : end ≡ at = cc in omega arith)))
+      (λ ne t. rw t (l .near s at y end));
+  same = λ N s at long inside.
+      rw (ne-eqb at (length (take N s)) (λ e. omega (arith, length-take-le N s long)), ne-eqb at (length s) (λ e. omega arith))
+      (l .same N s at long inside);
 }
 
 -- ---- a number
@@ -128,15 +141,29 @@ local-command sizes h =
     local-after {v = 20} (local-number 1) (λ s at g next e.
     local-check (ltb g (length sizes)) ill-formed (λ ok. local-body kind g (getD sizes g 0) (h g))))
 
--- ---- the commands: 2 bytes and at most 1,000 times 22
+-- ---- the zeros: 1 byte and at most 64
 
-local-commands : (groups : List (List ℕ)) → Small (map length groups) → Local (commands groups) 22002
+local-zeros : (G : ℕ) → G ≤ 64 → Local (zerosAt G) 65
+unfolding zerosAt section namedGroups
+local-zeros G few =
+    local-after {w = 65} {v = 0} (local-unless-end []
+    (local-after {v = 64} (local-number 1) (λ s at count next e.
+    local-check (leb 1 count && leb count G) ill-formed (λ ok.
+    wider {w = count * 1 + 0} (omega (arith, leb-true count G (and-eq-true-iff (leb 1 count) (leb count G) .0 ok .1)))
+    (local-after (local-many count (local-number 1)) (λ s at numbers end e.
+    local-check (rising G 0 numbers) ill-formed (λ ok. local-got numbers)))))))
+    (λ s at numbers end e. local-end (zerosOf G numbers))
+
+-- ---- the commands: 2 bytes and at most 1,000 times 22, and then the zeros
+
+local-commands : (groups : List (List ℕ)) → Small (map length groups) → length groups ≤ 64 → Local (commands groups) 22067
 unfolding commands commandRow
-local-commands groups h =
-    local-after {v = 22000} (local-number 2) (λ s at count next e.
+local-commands groups h few =
+    local-after {v = 22065} (local-number 2) (λ s at count next e.
     local-check (leb count 1000) ill-formed (λ ok.
-    wider {w = count * 22 + 0} (omega (arith, leb-true count 1000 ok))
-    (local-after (local-many count (local-command (map length groups) h)) (λ s at entries end e. local-end _))))
+    wider {w = count * 22 + (65 + 0)} (omega (arith, leb-true count 1000 ok))
+    (local-after (local-many count (local-command (map length groups) h)) (λ s at entries end e.
+    local-after (local-zeros (length groups) few) (λ s at zeros end e. local-got _)))))
 
 -- ---- the sheet: 1 byte and at most 64 times 41, and then its commands; it is read from place 0
 
@@ -149,11 +176,12 @@ at-start l = record {
 local-sheet : Local (λ s at. sheet s) longestSheet
 unfolding sheet
 local-sheet =
-    local-after {v = 24626} (at-start (local-number 1)) (λ s at count next e.
+    local-after {v = 24691} (at-start (local-number 1)) (λ s at count next e.
     local-check (leb 1 count && leb count 64) ill-formed (λ ok.
-    wider {w = count * 41 + 22002} (omega (arith, leb-true count 64 (and-eq-true-iff (leb 1 count) (leb count 64) .0 ok .1)))
+    let few : count ≤ 64 = leb-true count 64 (and-eq-true-iff (leb 1 count) (leb count 64) .0 ok .1) in
+    wider {w = count * 41 + 22067} (omega arith)
     (local-after (local-many count local-group) (λ s at groups end e.
-    local-commands groups (small groups (groups-readable s count at groups end e))))))
+    local-commands groups (small groups (groups-readable s count at groups end e)) (omega (arith, many-length (group s) count at groups end e))))))
 
 pub longest : (s : List ℕ) (c : Contents) (end : ℕ) → sheet s ≡ got c end → length s ≤ longestSheet
 longest s c end r = omega (arith, local-sheet .near s 0 c end r, valid s c end r .1)

@@ -20,6 +20,7 @@ use Rattle.sheet.specs.declared.held.Sheet.{Sheet}
 use Rattle.sheet.proofs.held.Action as action
 use Rattle.sheet.proofs.held.Group as group
 use Rattle.sheet.proofs.held.Groups as groups
+use Rattle.sheet.proofs.held.GroupZero as zero
 use Rattle.sheet.proofs.held.Entry as entry
 use Rattle.sheet.proofs.held.Sheet as sheet
 use Rattle.sheet.specs.Typed.{GroupTyped, ActionTyped, EntryTyped, SheetTyped}
@@ -64,10 +65,12 @@ pub sheet-typed : (h : Sheet) (vs : List Val) → Is sheet.the-row h vs → Shee
 sheet-typed h vs p =
     let parts = p .1 .1 in
     let list = parts .0 .1 .1 .1 .0 in
-    let entries = parts .1 .1 .0 in
+    let zeros = parts .1 .0 in
+    let entries = parts .1 .1 .1 .0 in
     record {
       groups-long = sym (length-map (h .groups .list) (group.the-field .into)) ∙ list .1 .0 .1;
       groups = every-typed group.the-field GroupTyped group-typed (h .groups .list) (list .0) (list .1 .1);
+      zeros-long = sym (length-map (h .zeros) (zero.the-field .into)) ∙ zeros .1 .0 .1;
       entries-long = sym (length-map (h .entries) (entry.the-field .into)) ∙ entries .1 .0 .1;
       entries = every-typed entry.the-field EntryTyped entry-typed (h .entries) (entries .0) (entries .1 .1);
     }

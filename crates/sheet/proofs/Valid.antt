@@ -1,5 +1,5 @@
 -- What is known of a sheet that was read without fault. Assumes nothing.
-use mathlib.Core.Path.{_≡_, refl, sym, _∙_}
+use mathlib.Core.Path.{_≡_, refl, sym, ap, _∙_}
 use mathlib.Core.Bool.{not, _&&_, and-eq-true-iff}
 use mathlib.Core.List.{List, [], map}
 use Prim.Native.Nat.{ℕ, _≤_, _<_}
@@ -11,14 +11,17 @@ use Rattle.theory.specs.Reasons.{sized}
 use Rattle.theory.specs.Levels.{tied, readNumber}
 use Rattle.theory.proofs.Cases.{by-le}
 use Rattle.theory.proofs.Refusal.{readable}
+use Rattle.sheet.specs.declared.held.GroupZero.{GroupZero}
 use Rattle.sheet.specs.declared.held.Entry.{Entry}
 use Rattle.sheet.specs.Bytes.{got, many, number}
+use Rattle.sheet.specs.ZeroSection.{section, zerosOf, zerosAt}
 use Rattle.sheet.specs.Sheet.{group, countAt, rewriteAt, storeAt, bodyAt, command, Contents, commandRow, commands, sheet}
 use Rattle.sheet.specs.Held.{noEntry}
 use Rattle.sheet.specs.Claims.{Each, Valid}
 use Rattle.sheet.specs.Parts.{Small}
 use Rattle.sheet.proofs.Inversion.{never, is-got, after-got, check-got, many-length, many-each}
 use Rattle.sheet.proofs.ByKind.{by-kind}
+use Rattle.sheet.proofs.ZeroSection.{zeros-length}
 
 -- ---- a group, and the groups
 
@@ -60,20 +63,35 @@ command-named sizes s at e end r =
     let judged = check-got (ltb (g .0) (length sizes)) _ _ (g .3) in
     rw (body-group (g .0) _ (kind .0) s (g .1) e end (judged .1)) (ltb-true (g .0) (length sizes) (judged .0))
 
+-- ---- the zeros
+
+zeros-parts : (G : ℕ) (s : List ℕ) (at : ℕ) (zeros : List GroupZero) (end : ℕ) → zerosAt G s at ≡ got zeros end
+    → (numbers : List ℕ) × (section G s at ≡ got numbers end) × (zeros ≡ zerosOf G numbers) × (end ≡ length s)
+unfolding zerosAt
+zeros-parts G s at zeros end r =
+    let found = after-got (section G s at) _ r in
+    let whole = check-got (eqb (found .1) (length s)) _ _ (found .3) in
+    is-got (λ zeros end. (numbers : List ℕ) × (section G s at ≡ got numbers end) × (zeros ≡ zerosOf G numbers) × (end ≡ length s)) (whole .1)
+    (found .0, found .2, refl, eqb-true (found .1) (length s) (whole .0))
+
 -- ---- the sheet
 
--- the counts, the groups and the commands of a sheet, each read where the part before it ends
+-- the counts, the groups, the commands and the zeros of a sheet, each read where the part before it ends
 pub record Sections (s : List ℕ) (c : Contents) (end : ℕ) : Type 0 where
   pub first : ℕ
   pub middle : ℕ
   pub second : ℕ
+  pub third : ℕ
+  pub numbers : List ℕ
   pub count : number 1 s 0 ≡ got (length (c .groups)) first
   pub some : 1 ≤ length (c .groups)
   pub few : length (c .groups) ≤ 64
   pub groups : many (length (c .groups)) (group s) first ≡ got (c .groups) middle
   pub commands : number 2 s middle ≡ got (length (c .entries)) second
   pub short : length (c .entries) ≤ 1000
-  pub entries : many (length (c .entries)) (command (map length (c .groups)) s) second ≡ got (c .entries) end
+  pub entries : many (length (c .entries)) (command (map length (c .groups)) s) second ≡ got (c .entries) third
+  pub named : section (length (c .groups)) s third ≡ got numbers end
+  pub zeros : c .zeros ≡ zerosOf (length (c .groups)) numbers
   pub last : end ≡ length s
 
 pub sections : (s : List ℕ) (c : Contents) (end : ℕ) → sheet s ≡ got c end → Sections s c end
@@ -86,13 +104,16 @@ sections s c end r =
     let two = after-got (number 2 s (row .1)) _ (row .3) in
     let few = check-got (leb (two .0) 1000) _ _ (two .3) in
     let list = after-got (many (two .0) (command (map length (row .0)) s) (two .1)) _ (few .1) in
-    let whole = check-got (eqb (list .1) (length s)) _ _ (list .3) in
+    let zeros = after-got (zerosAt (length (row .0)) s (list .1)) _ (list .3) in
+    let named = zeros-parts (length (row .0)) s (list .1) (zeros .0) (zeros .1) (zeros .2) in
     let groups : length (row .0) ≡ one .0 = many-length (group s) (one .0) (one .1) (row .0) (row .1) (row .2) in
     let entries : length (list .0) ≡ two .0 = many-length (command (map length (row .0)) s) (two .0) (two .1) (list .0) (list .1) (list .2) in
-    is-got (Sections s) (whole .1) (record {
+    is-got (Sections s) (zeros .3) (record {
       first = one .1;
       middle = row .1;
       second = two .1;
+      third = list .1;
+      numbers = named .0;
       count = rw groups (one .2);
       some = omega (arith, leb-true 1 (one .0) (bounds .0));
       few = omega (arith, leb-true (one .0) 64 (bounds .1));
@@ -100,10 +121,12 @@ sections s c end r =
       commands = rw entries (two .2);
       short = omega (arith, leb-true (two .0) 1000 (few .0));
       entries = rw entries (list .2);
-      last = eqb-true (list .1) (length s) (whole .0);
+      named = named .1;
+      zeros = named .2;
+      last = named .3;
     })
 
--- what it says is in its ranges, and nothing follows the last command
+-- what it says is in its ranges, and nothing follows it
 pub valid : (s : List ℕ) (c : Contents) (end : ℕ) → sheet s ≡ got c end → Valid c × (end ≡ length s)
 valid s c end r =
     let p = sections s c end r in
@@ -112,10 +135,11 @@ valid s c end r =
         some = p .some;
         few = p .few;
         readable = groups-readable s _ (p .first) (c .groups) (p .middle) (p .groups);
+        zeros = ap length (p .zeros) ∙ zeros-length (length (c .groups)) (p .numbers);
         short = p .short;
         named = rw (← sizes) (
             many-each (command (map length (c .groups)) s) (λ e. e .command .group < length (map length (c .groups))) (command-named (map length (c .groups)) s) noEntry
-            _ (p .second) (c .entries) end (p .entries));
+            _ (p .second) (c .entries) (p .third) (p .entries));
       },
       p .last,
     )

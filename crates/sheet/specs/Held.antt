@@ -5,6 +5,7 @@ use lib.ListN.{length, take}
 use Rattle.theory.specs.Lists.{padded}
 use Rattle.theory.specs.Permutation.{row}
 use Rattle.sheet.specs.Bytes.{Got, fault, got, numberOf}
+use Rattle.sheet.specs.ZeroSection.{onOld}
 use Rattle.sheet.specs.Sheet.{Contents, entry}
 use Rattle.sheet.specs.declared.held.Action.the-variants.{Count}
 use Rattle.sheet.specs.declared.held.Group.{Group}
@@ -23,19 +24,24 @@ noGroup = groupOf []
 abbrev pub groupsOf : List (List ℕ) → Groups
 groupsOf groups = record { count = length groups; list = padded 64 noGroup (map groupOf groups) }
 
--- what stands past the last command: zeros
+-- what stands past the last command: 0s
 abbrev pub noEntry : Entry
 noEntry = entry 0 (Count 0) []
 
 -- nothing: what a refused sheet is answered with
 abbrev pub noContents : Contents
-noContents = record { groups = []; entries = [] }
+noContents = record { groups = []; zeros = []; entries = [] }
 
 -- a sheet in memory: what it says, in rows
 unfoldable pub heldOf : Contents → Sheet
-heldOf c = record { groups = groupsOf (c .groups); count = length (c .entries); entries = padded 1000 noEntry (c .entries) }
+heldOf c = record {
+  groups = groupsOf (c .groups);
+  zeros = padded 64 onOld (c .zeros);
+  count = length (c .entries);
+  entries = padded 1000 noEntry (c .entries);
+}
 
--- what `read_sheet` answers: number 0 and the sheet, or the fault's number and zeros, "0 for every other number"
+-- what `read_sheet` answers: number 0 and the sheet, or the fault's number and nothing, "0 for every other number"
 unfoldable pub sheetAnswer : Got Contents → SheetRead
 sheetAnswer (fault f) = record { number = numberOf f; sheet = heldOf noContents }
 sheetAnswer (got c end) = record { number = 0; sheet = heldOf c }
@@ -49,4 +55,8 @@ abbrev pub groupsIn : Groups → List (List ℕ)
 groupsIn groups = map levelsOf (take (groups .count) (groups .list))
 
 abbrev pub contentsOf : Sheet → Contents
-contentsOf sheet = record { groups = groupsIn (sheet .groups); entries = take (sheet .count) (sheet .entries) }
+contentsOf sheet = record {
+  groups = groupsIn (sheet .groups);
+  zeros = take (sheet .groups .count) (sheet .zeros);
+  entries = take (sheet .count) (sheet .entries);
+}

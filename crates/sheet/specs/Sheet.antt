@@ -1,4 +1,4 @@
--- Document 01, "The bench sheet": what its bytes say, or the first fault met. Assumes nothing.
+-- Document 01, "The bench sheet": what its bytes say, or the first fault met; with the zeros of document 02, request 7. Assumes nothing.
 use mathlib.Core.Bool.{not, cond, _&&_}
 use mathlib.Core.List.{List, [], map}
 use Prim.Native.Nat.{ℕ}
@@ -8,8 +8,10 @@ use Rattle.theory.specs.Reasons.{sized}
 use Rattle.theory.specs.Levels as levels
 use Rattle.permutation.specs.Records.{recordOf}
 use Rattle.sheet.specs.Bytes.{missized, tied, ill-formed, Got, fault, got, after, check, many, number}
+use Rattle.sheet.specs.ZeroSection.{zerosAt}
 use Rattle.sheet.specs.declared.held.Action.{Action}
 use Rattle.sheet.specs.declared.held.Action.the-variants.{Count, Rewrite, Store}
+use Rattle.sheet.specs.declared.held.GroupZero.{GroupZero}
 use Rattle.sheet.specs.declared.held.Entry.{Entry}
 
 -- "Each has n in one byte, then n levels of two bytes"; "size is judged at the n byte and a tie after the group's last level". A group is its list of levels
@@ -54,17 +56,18 @@ command sizes s at =
     check (ltb g (length sizes)) ill-formed
     (bodyAt kind g (getD sizes g 0) s body)))
 
--- what a sheet without fault says
+-- what a sheet without fault says; the zeros are those of the groups, by group number
 pub record Contents : Type 0 where
   pub groups : List (List ℕ)
+  pub zeros : List GroupZero
   pub entries : List Entry
 
--- the commands in a row, and then the end: ill-formed are also "bytes after the last command"
+-- the commands in a row, and then the zeros, to the end of the sheet
 unfoldable pub commandRow : List (List ℕ) → ℕ → List ℕ → ℕ → Got Contents
 commandRow groups count s at =
-    after (many count (command (map length groups) s) at) (λ entries end.
-    check (eqb end (length s)) ill-formed
-    (got (record { groups = groups; entries = entries }) end))
+    after (many count (command (map length groups) s) at) (λ entries next.
+    after (zerosAt (length groups) s next) (λ zeros end.
+    got (record { groups = groups; zeros = zeros; entries = entries }) end))
 
 -- "Commands: count in two bytes, 0 to 1,000."
 unfoldable pub commands : List (List ℕ) → List ℕ → ℕ → Got Contents

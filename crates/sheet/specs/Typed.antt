@@ -33,5 +33,6 @@ pub record EntryTyped (e : Entry) : Type 0 where
 pub record SheetTyped (h : Sheet) : Type 0 where
   pub groups-long : length (h .groups .list) ≡ 64
   pub groups : Every GroupTyped (h .groups .list)
+  pub zeros-long : length (h .zeros) ≡ 64
   pub entries-long : length (h .entries) ≡ 1000
   pub entries : Every EntryTyped (h .entries)

@@ -1,9 +1,11 @@
-// A bench sheet in memory: groups and commands in rows of fixed length, filled from the front. In one that was read, zeros stand past them, past each n, and in the
-// target of a command that has none; in any other whatever does.
+// A bench sheet in memory: groups, their zeros and commands in rows of fixed length, filled from the front. In one that was read, 0s stand past groups and commands, past
+// each n, and in the target of a command that has none, and the old zero past those of the groups; in any other whatever does.
 ghost use mathlib.Core.Path.{_≡_};
 ghost use lib.ListN.{replicate};
+ghost use Rattle.sheet.specs.ZeroSection.{onOld};
 ghost use Rattle.sheet.specs.Held.{noGroup, noEntry};
 use permutation::answers::Permutation;
+use ranking::zero::Zero;
 
 // n cells, and their levels by name.
 pub struct Group {
@@ -14,6 +16,11 @@ pub struct Group {
 pub struct Groups {
     pub count: usize,
     pub list: [Group; 64],
+}
+
+// The zero of a group. In a struct of its own, since Rattle's borrow checker covers no field that is a row of enums.
+pub struct GroupZero {
+    pub zero: Zero,
 }
 
 // What a command asks for, by its kind.
@@ -34,8 +41,10 @@ pub struct Entry {
     pub target: Permutation,
 }
 
+// The zeros are those of the groups, by group number.
 pub struct Sheet {
     pub groups: Groups,
+    pub zeros: [GroupZero; 64],
     pub count: usize,
     pub entries: [Entry; 1000],
 }
@@ -58,6 +67,14 @@ pub fn no_groups() -> [Group; 64]
 {
     let none = no_group();
     [none; 64]
+}
+
+// Every group on the old zero. For other crates too.
+pub fn old_zeros() -> [GroupZero; 64]
+    ensures { λ r. ⌜ r ≡ replicate 64 onOld ⌝ }
+{
+    let old = GroupZero { zero: Zero::Old };
+    [old; 64]
 }
 
 pub fn no_entry() -> Entry

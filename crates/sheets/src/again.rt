@@ -6,8 +6,8 @@ use writer::write_sheet::write_sheet;
 const UNWRITTEN: u8 = 9;
 
 // One byte more than the longest sheet has, so that each has bytes past it.
-fn unwritten() -> [u8; 24628] {
-    [UNWRITTEN; 24628]
+fn unwritten() -> [u8; 24693] {
+    [UNWRITTEN; 24693]
 }
 
 // The sheet's byte, and past the sheet what was lent.

@@ -1,4 +1,4 @@
--- What holds of every text, and document 01's sheet. Assumes nothing.
+-- What holds of every text, and document 01's sheet, on either zero. Assumes nothing.
 use mathlib.Core.Path.{_≡_}
 use mathlib.Core.List.{List, [], _∷_, _++_}
 use Prim.Native.Nat.{ℕ, _+_}
@@ -12,14 +12,25 @@ abbrev pub textBound : ℕ
 textBound = 31344
 
 -- "Output, whole": c 1 0 4; c 2 0 1; c 3 5 0; g 0 5 7 6 8
-abbrev pub exampleText : List ℕ
-exampleText =
+abbrev pub exampleCommands : List ℕ
+exampleCommands =
     (99 ∷ 32 ∷ 49 ∷ 32 ∷ 48 ∷ 32 ∷ 52 ∷ 10 ∷ [])
     ++ (99 ∷ 32 ∷ 50 ∷ 32 ∷ 48 ∷ 32 ∷ 49 ∷ 10 ∷ [])
     ++ (99 ∷ 32 ∷ 51 ∷ 32 ∷ 53 ∷ 32 ∷ 48 ∷ 10 ∷ [])
-    ++ (103 ∷ 32 ∷ 48 ∷ 32 ∷ 53 ∷ 32 ∷ 55 ∷ 32 ∷ 54 ∷ 32 ∷ 56 ∷ 10 ∷ [])
+
+abbrev pub exampleText : List ℕ
+exampleText = exampleCommands ++ (103 ∷ 32 ∷ 48 ∷ 32 ∷ 53 ∷ 32 ∷ 55 ∷ 32 ∷ 54 ∷ 32 ∷ 56 ∷ 10 ∷ [])
+
+-- document 02, request 7, of the same sheet: a third section names its group, which is left at rank 5. [1,2,3] has rank 4: g 0 1 7 6 8
+abbrev pub exampleSheetNew : List ℕ
+exampleSheetNew = exampleSheet ++ (1 ∷ 0 ∷ [])
+
+abbrev pub exampleTextNew : List ℕ
+exampleTextNew = exampleCommands ++ (103 ∷ 32 ∷ 48 ∷ 32 ∷ 49 ∷ 32 ∷ 55 ∷ 32 ∷ 54 ∷ 32 ∷ 56 ∷ 10 ∷ [])
 
 pub record Texts : Type 0 where
   pub example : textOf (sheet exampleSheet) ≡ exampleText
+  -- "The g line prints the value"
+  pub example-zeros : textOf (sheet exampleSheetNew) ≡ exampleTextNew
   -- a sheet longer than the longest is faulty whatever follows: its first bytes have the same text
   pub decided : (s : List ℕ) → textOf (sheet (take (longestSheet + 1) s)) ≡ textOf (sheet s)

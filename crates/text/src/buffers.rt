@@ -6,10 +6,10 @@ ghost use Rattle.sheet.specs.Claims.{longestSheet};
 ghost use Rattle.text.specs.Claims.{textBound};
 
 // One byte more than the longest sheet has: a sheet that fills this is faulty, whatever follows.
-pub fn sheet_buffer() -> [u8; 24628]
+pub fn sheet_buffer() -> [u8; 24693]
     ensures { λ r. ⌜ r ≡ replicate (longestSheet + 1) 0 ⌝ }
 {
-    [0u8; 24628]
+    [0u8; 24693]
 }
 
 // No text is longer.

@@ -6,6 +6,7 @@ use native.Mathlib.Omega.{arith}
 use lib.ListN.{length}
 use Rattle.theory.specs.Permutation.{IsPermutation}
 use Rattle.theory.specs.Rank.{rank}
+use Rattle.theory.specs.Zero.{valueFrom}
 use Rattle.theory.specs.Levels.{highest, permutationOf, ReadsAs}
 use Rattle.theory.specs.CountUp.{countUp}
 use Rattle.theory.specs.Run.{steps, stepLevels, afterCalls, stepsDone}
@@ -21,6 +22,7 @@ use Rattle.theory.proofs.Cycle.{
   run-balance,
   run-shares,
 }
+use Rattle.theory.proofs.Zero.{value-counted}
 use Rattle.theory.proofs.Sorting.{reads-permutationOf, reads-untied, reads-is}
 use Rattle.theory.proofs.LevelRun.{run-length, run-reads, run-highest, run-gap, run-jump, stepLevels-add, countUp-run}
 use Rattle.theory.proofs.Calls.{call-done, call-refused, calls-run, call-number}
@@ -76,6 +78,9 @@ demand3 n low = record {
   level-ranks = λ L s ks.
       ap (rank n) (reads-is (after-reads n low L s ks))
       ∙ run-rank n low (permutationOf L) (start-permutation n low L s) (stepsDone ks L);
+  level-values = λ z L s ks.
+      ap (valueFrom n z) (reads-is (after-reads n low L s ks))
+      ∙ value-counted n z low (permutationOf L) (start-permutation n low L s) (stepsDone ks L);
   call-done = λ L s ks k.
       let size = after-length n low L s ks in
       call-done k (afterCalls ks L) (omega arith) (omega (arith, s .few)) (reads-untied (after-reads n low L s ks));

@@ -16,7 +16,7 @@ factorial-pred (suc m) h =
     let e : m ≡ suc m - 1 = omega arith in
     ap (λ (k : ℕ). suc m * factorial k) e
 
-factorial-grows : (m n : ℕ) → m ≤ n → factorial m ≤ factorial n
+pub factorial-grows : (m n : ℕ) → m ≤ n → factorial m ≤ factorial n
 factorial-grows zero n h = factorial-pos n
 factorial-grows (suc m) zero h = absurd (omega arith)
 factorial-grows (suc m) (suc n) h =

@@ -5,6 +5,7 @@ use Rattle.theory.proofs.Factorials.{factorials}
 use Rattle.theory.proofs.Padding.{padding}
 use Rattle.theory.proofs.Ranking.{ranking}
 use Rattle.theory.proofs.Stepping.{stepping}
+use Rattle.theory.proofs.Zero.{valuing, zeros}
 use Rattle.theory.proofs.Reading.{reading}
 use Rattle.theory.proofs.Rewriting.{rewriting}
 use Rattle.theory.proofs.Prefixes.{numbering, coding}
@@ -22,6 +23,8 @@ theory = record {
   padding = padding;
   ranking = ranking;
   stepping = stepping;
+  valuing = valuing;
+  zeros = zeros;
   reading = reading;
   rewriting = rewriting;
   numbering = numbering;

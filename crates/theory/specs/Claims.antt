@@ -12,9 +12,10 @@ use Rattle.theory.specs.Push.{push, pushes, Places, pushCells, cellPlace
 use Rattle.theory.specs.Successor.{successor, step}
 use Rattle.theory.specs.Rank.{remaining, rank, digits, digitValue}
 use Rattle.theory.specs.Unrank.{unrank}
+use Rattle.theory.specs.Zero.{valueFrom, permutationFrom, oldZero, newZero}
 use Rattle.theory.specs.Levels.{level, highest, lowest, tied, permutationOf, ReadsAs, pushLevel, pushLevels, jump}
 use Rattle.theory.specs.CountUp.{countUp, callNumber, callPushes, callLevels}
-use Rattle.theory.specs.Run.{afterCalls}
+use Rattle.theory.specs.Run.{steps, afterCalls}
 use Rattle.theory.specs.Rewrite.{rewriteCount, rewritePushes}
 use Rattle.theory.specs.Prefix.{IsPrefix, prefixes, prefixAt, prefixNumber, prefixLength, symbolPrefix, symbolOf}
 use Rattle.theory.specs.Store.{restLeads, storeCount, storePushes}
@@ -72,6 +73,28 @@ pub record Stepping (n : ℕ) : Type 0 where
   pub push-permutation : (i : ℕ) (xs : List ℕ) → 1 ≤ i → i ≤ n → IsPermutation n xs → IsPermutation n (push i xs)
   pub step-permutation : (xs : List ℕ) → IsPermutation n xs → IsPermutation n (step n xs)
   pub step-rank : (xs : List ℕ) → IsPermutation n xs → rank n (step n xs) ≡ (rank n xs + 1) % factorial n
+
+-- document 02, request 7: the values of n cells with the zero z. "both are shown for a zero of any order": z is any list
+pub record Valuing (n : ℕ) (z : List ℕ) : Type 0 where
+  -- the count starts at the zero
+  pub start : valueFrom n z z ≡ 0
+  -- "Any k steps add k to the value modulo n!"
+  pub counted : (xs : List ℕ) → IsPermutation n xs → (k : ℕ) → valueFrom n z (steps n k xs) ≡ (valueFrom n z xs + k) % factorial n
+  -- "each value from 0 to n! - 1 belongs to exactly one order of n cells": there are no other values, a permutation has each of them, and no other permutation
+  -- has the same
+  pub below : (xs : List ℕ) → valueFrom n z xs < factorial n
+  pub has : (v : ℕ) → v < factorial n → IsPermutation n (permutationFrom n z v) × (valueFrom n z (permutationFrom n z v) ≡ v)
+  pub only : (v : ℕ) (xs : List ℕ) → IsPermutation n xs → valueFrom n z xs ≡ v → xs ≡ permutationFrom n z v
+
+-- "and used for these two": the old zero and the new, of n cells
+pub record Zeros (n : ℕ) : Type 0 where
+  pub old-permutation : IsPermutation n (oldZero n)
+  pub new-permutation : IsPermutation n (newZero n)
+  pub old : Valuing n (oldZero n)
+  pub new : Valuing n (newZero n)
+  pub old-rank : rank n (oldZero n) ≡ 0
+  -- so on the old zero the value is the rank, as it was before there was a new one
+  pub old-value : (xs : List ℕ) → valueFrom n (oldZero n) xs ≡ rank n xs
 
 -- the permutation of levels without a tie
 pub record Reading (L : List ℕ) : Type 0 where

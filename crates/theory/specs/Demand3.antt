@@ -8,6 +8,7 @@ use Rattle.theory.specs.Factorial.{factorial}
 use Rattle.theory.specs.Permutation.{IsPermutation, cellAt, top}
 use Rattle.theory.specs.Successor.{successor}
 use Rattle.theory.specs.Rank.{rank}
+use Rattle.theory.specs.Zero.{valueFrom}
 use Rattle.theory.specs.Levels.{highest, topLessBottom, tied, Gapless, permutationOf, jump}
 use Rattle.theory.specs.CountUp.{countUp, callNumber, callPushes, callLevels}
 use Rattle.theory.specs.Run.{steps, pushCount, stepLevels, afterCalls, callNumbers, stepsDone}
@@ -60,6 +61,10 @@ pub record Demand3 (n : ℕ) : Type 0 where
   pub level-ranks :
       (L : List ℕ) → Start n L → (ks : List ℕ)
       → rank n (permutationOf (afterCalls ks L)) ≡ (rank n (permutationOf L) + stepsDone ks L) % factorial n
+  -- document 02, request 7: "Any k steps add k to the value modulo n!", with any zero z; of steps alone it is `Valuing.counted`
+  pub level-values :
+      (z L : List ℕ) → Start n L → (ks : List ℕ)
+      → valueFrom n z (permutationOf (afterCalls ks L)) ≡ (valueFrom n z (permutationOf L) + stepsDone ks L) % factorial n
   -- "A call with k is done [..] exactly when the top standing then plus k is at most 65,535." ks are the calls before it
   pub call-done : (L : List ℕ) → Start n L → (ks : List ℕ) (k : ℕ) → highest (afterCalls ks L) + k ≤ 65535 → Done k (afterCalls ks L)
   pub call-refused :

@@ -8,6 +8,7 @@ pub mod Push
 pub mod Successor
 pub mod Rank
 pub mod Unrank
+pub mod Zero
 pub mod Levels
 pub mod CountUp
 pub mod InTurn

@@ -37,7 +37,8 @@ ceiling = 6
 abbrev pub idle : ℕ
 idle = 7
 
--- "the bench sheet is ill-formed"
+-- "the bench sheet is ill-formed"; document 02, request 7, of the groups on the new zero: "A count here outside its range, numbers that don't rise, or bytes after the
+-- last of them, is sheet"
 abbrev pub sheet : ℕ
 sheet = 8
 

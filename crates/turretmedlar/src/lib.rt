@@ -6,7 +6,7 @@ ghost use lib.ListN.{length};
 ghost use Rattle.theory.specs.CountUp.{callLevels};
 ghost use Rattle.theory.specs.Spent.{Spends};
 ghost use Rattle.permutation.specs.Answers.{pushAnswer, successorAnswer};
-ghost use Rattle.ranking.specs.Answers.{digitsAnswer, rankAnswer, unrankAnswer};
+ghost use Rattle.ranking.specs.Answers.{digitsAnswer, rankAnswer, unrankAnswer, valueByNumberAnswer, permutationByNumberAnswer};
 ghost use Rattle.charge.specs.Answers.{readAnswer, placeAnswer, placeLevels, callAnswer};
 ghost use Rattle.rewriting.specs.Answers.{rewriteAnswer, rewriteLevels, rewriteList, RewriteOf};
 ghost use Rattle.symbols.specs.Answers.{storeAnswer, storeLevels, StoreOf, symbolAnswer};
@@ -32,9 +32,12 @@ use permutation::push::push;
 use permutation::successor::successor;
 use ranking::answers::Digits;
 use ranking::answers::Ranked;
+use ranking::answers::Valued;
 use ranking::digits::digits;
+use ranking::permutation_of_value::permutation_by_number;
 use ranking::rank::rank;
 use ranking::unrank::unrank;
+use ranking::value::value_by_number;
 use reach::answers::Reached;
 use reach::within_reach::within_reach;
 use rewriting::rewrite::rewrite;
@@ -78,6 +81,20 @@ pub extern "C" fn tm_unrank(n: usize, rank: u64) -> Permuted
     ensures { λ r. ⌜ r ≡ unrankAnswer n rank ⌝ }
 {
     unrank(n, rank)
+}
+
+#[no_mangle]
+pub extern "C" fn tm_value(permutation: Permutation, zero: u8) -> Valued
+    ensures { λ r. ⌜ r ≡ valueByNumberAnswer permutation zero ⌝ }
+{
+    value_by_number(permutation, zero)
+}
+
+#[no_mangle]
+pub extern "C" fn tm_permutation_of_value(n: usize, value: u64, zero: u8) -> Permuted
+    ensures { λ r. ⌜ r ≡ permutationByNumberAnswer n value zero ⌝ }
+{
+    permutation_by_number(n, value, zero)
 }
 
 #[no_mangle]
@@ -171,15 +188,16 @@ pub extern "C" fn tm_bench(sheet: &[u8], text: &mut [u8]) -> Printed
 pub extern "C" fn tm_write_sheet(
     sizes: &[usize],
     levels: &[u16],
+    zeros: &[u8],
     kinds: &[u8],
     groups: &[u8],
     numbers: &[u64],
     names: &[u8],
     out: &mut [u8],
 ) -> Written
-    ensures answer { λ r. ⌜ r ≡ listsAnswer (lists (now (sizes .entry)) (now (levels .entry)) (now (kinds .entry)) (now (groups .entry)) (now (numbers .entry)) (now (names .entry))) (length (now (out .entry))) ⌝ }
-    ensures out_left { λ _. ⌜ now (out .exit) ≡ listsOn (lists (now (sizes .entry)) (now (levels .entry)) (now (kinds .entry)) (now (groups .entry)) (now (numbers .entry)) (now (names .entry))) (now (out .entry)) ⌝ }
-    ensures round_trips { λ r. ⌜ (listsNumber (lists (now (sizes .entry)) (now (levels .entry)) (now (kinds .entry)) (now (groups .entry)) (now (numbers .entry)) (now (names .entry))) ≡ 0 → RoundTrips (heldIn (lists (now (sizes .entry)) (now (levels .entry)) (now (kinds .entry)) (now (groups .entry)) (now (numbers .entry)) (now (names .entry)))) (now (out .entry)) r (now (out .exit))) ⌝ }
+    ensures answer { λ r. ⌜ r ≡ listsAnswer (lists (now (sizes .entry)) (now (levels .entry)) (now (zeros .entry)) (now (kinds .entry)) (now (groups .entry)) (now (numbers .entry)) (now (names .entry))) (length (now (out .entry))) ⌝ }
+    ensures out_left { λ _. ⌜ now (out .exit) ≡ listsOn (lists (now (sizes .entry)) (now (levels .entry)) (now (zeros .entry)) (now (kinds .entry)) (now (groups .entry)) (now (numbers .entry)) (now (names .entry))) (now (out .entry)) ⌝ }
+    ensures round_trips { λ r. ⌜ (listsNumber (lists (now (sizes .entry)) (now (levels .entry)) (now (zeros .entry)) (now (kinds .entry)) (now (groups .entry)) (now (numbers .entry)) (now (names .entry))) ≡ 0 → RoundTrips (heldIn (lists (now (sizes .entry)) (now (levels .entry)) (now (zeros .entry)) (now (kinds .entry)) (now (groups .entry)) (now (numbers .entry)) (now (names .entry)))) (now (out .entry)) r (now (out .exit))) ⌝ }
 {
-    write_lists(sizes, levels, kinds, groups, numbers, names, out)
+    write_lists(sizes, levels, zeros, kinds, groups, numbers, names, out)
 }

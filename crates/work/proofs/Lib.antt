@@ -1,5 +1,6 @@
 -- Laws that the proofs of the functions use.
 pub mod Jobs
+pub mod Zipped
 pub mod Working
-pub mod Ranks
+pub mod GroupValues
 pub mod Outcomes

@@ -27,13 +27,14 @@ unfolding sheetAnswer
 accepted s r e z =
     let found = answered-got sheet-tells-fault r (sheet s) e z in
     let is : r .sheet ≡ heldOf (found .0) = ap (λ (r : SheetRead). r .sheet) (found .3) in
-    let back : contentsOf (r .sheet) ≡ found .0 = ap contentsOf is ∙ sheets .held (found .0) in
+    let valid = sheets .valid s (found .0) (found .1) (found .2) in
+    let back : contentsOf (r .sheet) ≡ found .0 = ap contentsOf is ∙ sheets .held (found .0) (valid .zeros) in
     record {
       contents = found .0;
       end = found .1;
       reads = found .2;
       says = back;
-      sheet-held = record { held = is ∙ ap heldOf (sym back); valid = rw back (sheets .valid s (found .0) (found .1) (found .2)) };
+      sheet-held = record { held = is ∙ ap heldOf (sym back); valid = rw back valid };
     }
 
 -- ---- what is answered, by the number of the sheet that was read

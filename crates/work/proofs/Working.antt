@@ -1,6 +1,6 @@
 -- Working through a sheet in memory: groups in their row, and what the commands so far answered and left. Assumes nothing.
 use mathlib.Core.Path.{_≡_, refl, sym, ap, _∙_}
-use mathlib.Core.List.{List, [], _++_, map}
+use mathlib.Core.List.{List, [], _++_, map, zipWith}
 use Prim.Native.Nat.{ℕ, _+_, _-_, _≤_, _<_}
 use native.Mathlib.Omega.{arith}
 use lib.ListN.{length, getD, take, drop, set, replicate, length-set, length-replicate, length-map}
@@ -16,6 +16,7 @@ use Rattle.permutation.specs.declared.answers.Permutation.{Permutation}
 use Rattle.theory.specs.Levels.{readNumber}
 use Rattle.charge.specs.declared.answers.Pushes.{Pushes}
 use Rattle.theory.proofs.Refusal.{readable}
+use Rattle.sheet.specs.ZeroSection.{onOld}
 use Rattle.sheet.specs.Sheet.{Contents}
 use Rattle.sheet.specs.Claims.{Each, Valid}
 use Rattle.sheet.specs.Held.{groupOf, groupsOf, noEntry, heldOf, levelsOf, groupsIn, contentsOf}
@@ -26,12 +27,13 @@ use Rattle.sheet.specs.declared.held.Group.{Group}
 use Rattle.sheet.specs.declared.held.Groups.{Groups}
 use Rattle.sheet.specs.declared.held.Entry.{Entry}
 use Rattle.sheet.specs.declared.held.Sheet.{Sheet}
-use Rattle.work.specs.Work.{jobLevels, levelsFor, answerTo, groupsAfter, answers, groupsAfterAll, rankOf}
+use Rattle.work.specs.Work.{jobLevels, levelsFor, answerTo, groupsAfter, answers, groupsAfterAll, valueOf, groupsLeft, valuesLeft}
 use Rattle.work.specs.Answers.{noAnswer, outcomeOf}
 use Rattle.work.specs.Acting.{acted}
 use Rattle.work.specs.declared.acting.Acted.{Acted}
 use Rattle.work.specs.declared.answers.Outcome.{Outcome}
 use Rattle.work.proofs.Jobs.{job-length, job-readable}
+use Rattle.work.proofs.Zipped.{zipped-length}
 
 -- ---- a group
 
@@ -98,6 +100,10 @@ pub groupsAfterAll-held : (c : Contents) (es : List Entry) → Valid c → Group
 groupsAfterAll-held c es v =
     groups-held (groupsAfterAll (c .groups) es) (omega (arith, v .few, groupsAfterAll-length (c .groups) es)) (groupsAfterAll-each (c .groups) es (v .readable))
 
+-- and each has a value, on its zero
+pub values-length : (c : Contents) → Valid c → length (valuesLeft c) ≡ length (groupsLeft c)
+values-length c v = zipped-length valueOf (c .zeros) (groupsLeft c) (v .zeros ∙ sym (groupsAfterAll-length (c .groups) (c .entries)))
+
 -- ---- the loop over the commands of a sheet
 
 -- after i commands
@@ -113,6 +119,14 @@ module _ {sheet : Sheet} (h : SheetHeld sheet) where
   pub count-few : sheet .count ≤ 1000
   count-few = omega (arith, sheet-count, h .valid .short)
 
+  zeros-are : sheet .zeros ≡ padded 64 onOld (contentsOf sheet .zeros)
+  unfolding heldOf
+  zeros-are = ap (λ (s : Sheet). s .zeros) (h .held)
+
+  groups-count : sheet .groups .count ≡ length (contentsOf sheet .groups)
+  unfolding heldOf
+  groups-count = ap (λ (s : Sheet). s .groups .count) (h .held)
+
   pub start : Progress sheet (replicate 1000 noAnswer) (sheet .groups) 0
   unfolding heldOf
   start = turn-none (omega (arith, h .valid .short, length-replicate 1000 noAnswer)) (ap (λ (s : Sheet). s .groups) (h .held))
@@ -121,6 +135,9 @@ module _ {sheet : Sheet} (h : SheetHeld sheet) where
     left-is : groups ≡ groupsOf (groupsAfterAll (contentsOf sheet .groups) (take i (contentsOf sheet .entries)))
     unfolding groupsAfterAll
     left-is = v .left
+
+    left-count : groups .count ≡ length (contentsOf sheet .groups)
+    left-count = ap (λ (x : Groups). x .count) left-is ∙ groupsAfterAll-length (contentsOf sheet .groups) (take i (contentsOf sheet .entries))
 
     pub progress-held : GroupsHeld groups
     progress-held = rw left-is (groupsAfterAll-held (contentsOf sheet) (take i (contentsOf sheet .entries)) (h .valid))
@@ -141,9 +158,7 @@ module _ {sheet : Sheet} (h : SheetHeld sheet) where
         index-below =
             let named = h .valid .named i there in
             let same : getD (contentsOf sheet .entries) i noEntry ≡ next = getD-any (contentsOf sheet .entries) i noEntry d there ∙ next-is in
-            let count : groups .count ≡ length (contentsOf sheet .groups) =
-            ap (λ (x : Groups). x .count) left-is ∙ groupsAfterAll-length (contentsOf sheet .groups) (take i (contentsOf sheet .entries)) in
-            rw (count, is) (rw same at named, h .valid .few)
+            rw (left-count, is) (rw same at named, h .valid .few)
 
         pub step : (z : Group) {r : Acted} → r ≡ acted (next .command .action) (next .target) (levelsOf (getD (groups .list) g z))
             → Progress sheet (set said i (r .answer)) (record { count = groups .count; list = set (groups .list) g (r .group) }) (i + 1)
@@ -158,14 +173,15 @@ module _ {sheet : Sheet} (h : SheetHeld sheet) where
             let did : r ≡ acted (next .command .action) (next .target) (levelsFor Ls next) = e ∙ rw levels in
             turn-more v d there (rw (next-is, did)) (rw (next-is, did, v .left, ← is) (groups-set Ls g inside _))
 
-    pub end : {ranks : List ℕ} → sheet .count ≤ i → ranks ≡ padded 64 0 (map rankOf (groupsIn groups))
-        → _≡_ {A = Outcome} (record { count = sheet .count; answers = said; groups = groups; ranks = ranks }) (outcomeOf (contentsOf sheet))
+    pub end : {values : List ℕ} → sheet .count ≤ i → values ≡ padded 64 0 (zipWith valueOf (take (groups .count) (sheet .zeros)) (groupsIn groups))
+        → _≡_ {A = Outcome} (record { count = sheet .count; answers = said; groups = groups; zeros = sheet .zeros; values = values }) (outcomeOf (contentsOf sheet))
     unfolding outcomeOf answers groupsAfterAll
-    end {ranks} all e =
+    end {values} all e =
         let es : List Entry = contentsOf sheet .entries in
         let Ls : List (List ℕ) = groupsAfterAll (contentsOf sheet .groups) es in
         let done : length es ≤ i = omega (arith, sheet-count) in
         let answers-are = row-all 1000 noAnswer (v .answered) done in
         let groups-are : groups ≡ groupsOf Ls = turn-left v done in
-        let ranks-are : ranks ≡ padded 64 0 (map rankOf Ls) = e ∙ rw (groups-are, groups-back Ls) in
-        λ k. record { count = sheet-count k; answers = answers-are k; groups = groups-are k; ranks = ranks-are k }
+        let first : take (groups .count) (sheet .zeros) ≡ contentsOf sheet .zeros = ap (λ (n : ℕ). take n (sheet .zeros)) (left-count ∙ sym groups-count) in
+        let values-are : values ≡ padded 64 0 (zipWith valueOf (contentsOf sheet .zeros) Ls) = e ∙ rw (first, groups-are, groups-back Ls) in
+        λ k. record { count = sheet-count k; answers = answers-are k; groups = groups-are k; zeros = zeros-are k; values = values-are k }

@@ -3,10 +3,11 @@ use lib.ListN.{length}
 use Rattle.charge.specs.Answers.{noPushes}
 use Rattle.charge.specs.declared.answers.Pushes.{Pushes}
 use Rattle.sheet.specs.Bytes.{Got, fault, got, numberOf}
+use Rattle.sheet.specs.ZeroSection.{onOld}
 use Rattle.sheet.specs.Sheet.{Contents}
 use Rattle.theory.specs.Lists.{padded}
 use Rattle.sheet.specs.Held.{groupsOf, noContents}
-use Rattle.work.specs.Work.{answersOf, groupsLeft, ranksLeft}
+use Rattle.work.specs.Work.{answersOf, groupsLeft, valuesLeft}
 use Rattle.work.specs.declared.answers.Outcome.{Outcome}
 use Rattle.work.specs.declared.answers.Worked.{Worked}
 
@@ -20,10 +21,11 @@ outcomeOf c = record {
   count = length (c .entries);
   answers = padded 1000 noAnswer (answersOf c);
   groups = groupsOf (groupsLeft c);
-  ranks = padded 64 0 (ranksLeft c);
+  zeros = padded 64 onOld (c .zeros);
+  values = padded 64 0 (valuesLeft c);
 }
 
--- number 0 and the outcome, or the fault's number and zeros: "Only a sheet without fault starts work."
+-- number 0 and the outcome, or the fault's number and nothing: "Only a sheet without fault starts work."
 unfoldable pub workAnswer : Got Contents → Worked
 workAnswer (fault f) = record { number = numberOf f; outcome = outcomeOf noContents }
 workAnswer (got c end) = record { number = 0; outcome = outcomeOf c }

@@ -1,12 +1,12 @@
 -- Working through a sheet: what each command answers, and the levels that are left. Assumes nothing.
-use mathlib.Core.List.{List, [], map}
+use mathlib.Core.List.{List, [], zipWith}
 use Prim.Native.Nat.{ℕ}
 use lib.ListN.{length, getD, set}
-use Rattle.theory.specs.Rank.{rank}
 use Rattle.theory.specs.Levels.{permutationOf}
 use Rattle.theory.specs.InTurn.{leftBy, answersTo}
 use Rattle.theory.specs.CountUp.{callLevels}
 use Rattle.permutation.specs.declared.answers.Permutation.{Permutation}
+use Rattle.ranking.specs.Zeros.{valueOn}
 use Rattle.charge.specs.Answers.{callAnswer}
 use Rattle.charge.specs.declared.answers.Pushes.{Pushes}
 use Rattle.rewriting.specs.Answers.{rewriteAnswer, rewriteLevels}
@@ -14,6 +14,7 @@ use Rattle.symbols.specs.Answers.{storeAnswer, storeLevels}
 use Rattle.sheet.specs.Sheet.{Contents}
 use Rattle.sheet.specs.declared.held.Action.{Action}
 use Rattle.sheet.specs.declared.held.Action.the-variants.{Count, Rewrite, Store}
+use Rattle.sheet.specs.declared.held.GroupZero.{GroupZero}
 use Rattle.sheet.specs.declared.held.Entry.{Entry}
 
 -- the bytes of the push list that a rewrite is lent here; a list of twenty is never too short
@@ -50,16 +51,17 @@ answers groups es = answersTo answerTo groupsAfter es groups
 unfoldable pub groupsAfterAll : List (List ℕ) → List Entry → List (List ℕ)
 groupsAfterAll groups es = leftBy groupsAfter es groups
 
--- the rank of the permutation of a group's levels
-abbrev pub rankOf : List ℕ → ℕ
-rankOf L = rank (length L) (permutationOf L)
+-- the value, on a group's zero, of the permutation of its levels
+abbrev pub valueOf : GroupZero → List ℕ → ℕ
+valueOf z L = valueOn (z .zero) (length L) (permutationOf L)
 
--- what working through a sheet gives: a number and pushes for each command, levels and rank for each group
+-- what working through a sheet gives: a number and pushes for each command, levels and value for each group. No command moves a zero;
+-- each group has one (`Valid.zeros`), so that none is without its value
 abbrev pub answersOf : Contents → List Pushes
 answersOf c = answers (c .groups) (c .entries)
 
 abbrev pub groupsLeft : Contents → List (List ℕ)
 groupsLeft c = groupsAfterAll (c .groups) (c .entries)
 
-abbrev pub ranksLeft : Contents → List ℕ
-ranksLeft c = map rankOf (groupsLeft c)
+abbrev pub valuesLeft : Contents → List ℕ
+valuesLeft c = zipWith valueOf (c .zeros) (groupsLeft c)

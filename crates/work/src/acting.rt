@@ -1,7 +1,7 @@
 // Each command of a held sheet is done or refused by itself, by the jobs that stand alone, and the next follows.
 ghost use mathlib.Core.Path.{_≡_};
-ghost use mathlib.Core.List.{map};
-ghost use lib.ListN.{replicate};
+ghost use mathlib.Core.List.{zipWith};
+ghost use lib.ListN.{take, replicate};
 ghost use Rattle.theory.specs.Lists.{padded};
 ghost use Rattle.sheet.specs.Held.{noContents, levelsOf, groupsIn, contentsOf};
 ghost use Rattle.sheet.specs.Standing.{GroupHeld, GroupsHeld, SheetHeld};
@@ -15,13 +15,15 @@ use charge::count_up::count_up;
 use charge::read::read;
 use permutation::answers::Permutation;
 use permutation::cell::wide;
-use ranking::rank::rank;
+use ranking::value::value;
 use rewriting::rewrite::rewrite;
 use sheet::held::Action;
 use sheet::held::Group;
+use sheet::held::GroupZero;
 use sheet::held::Groups;
 use sheet::held::Sheet;
 use sheet::held::no_groups;
+use sheet::held::old_zeros;
 use symbols::store::store;
 
 // What a command did on its group.
@@ -57,29 +59,31 @@ fn act_group(group: Group, action: Action, target: Permutation) -> Acted
     }
 }
 
-fn rank_of(group: Group) -> u64
+fn value_of(group: Group, on: GroupZero) -> u64
     requires { ⌜ GroupHeld group ⌝ }
-    ensures { λ r. ⌜ r ≡ meaning.rankOf (levelsOf group) ⌝ }
+    ensures { λ r. ⌜ r ≡ meaning.valueOf on (levelsOf group) ⌝ }
 {
     let n = group.n;
     let levels = group.levels;
     let permutation = read(&levels[..n]).permutation;
-    rank(permutation).rank
+    let zero = on.zero;
+    value(permutation, zero).value
 }
 
-fn ranks_of(groups: Groups) -> [u64; 64]
+fn values_of(groups: Groups, zeros: [GroupZero; 64]) -> [u64; 64]
     requires { ⌜ GroupsHeld groups ⌝ }
-    ensures { λ r. ⌜ r ≡ padded 64 0 (map meaning.rankOf (groupsIn groups)) ⌝ }
+    ensures { λ r. ⌜ r ≡ padded 64 0 (zipWith meaning.valueOf (take (groups .count) zeros) (groupsIn groups)) ⌝ }
 {
     let count = groups.count;
-    let mut ranks = [0u64; 64];
+    let mut values = [0u64; 64];
     let mut g: usize = 0;
     while g < count {
         let group = groups.list[g];
-        ranks[g] = rank_of(group);
+        let on = zeros[g];
+        values[g] = value_of(group, on);
         g += 1;
     }
-    ranks
+    values
 }
 
 fn no_answers() -> [Pushes; 1000]
@@ -112,26 +116,30 @@ pub fn work(sheet: Sheet) -> Outcome
         groups.list[g] = left;
         i += 1;
     }
-    let ranks = ranks_of(groups);
+    let zeros = sheet.zeros;
+    let values = values_of(groups, zeros);
     Outcome {
         count,
         answers,
         groups,
-        ranks,
+        zeros,
+        values,
     }
 }
 
-// The outcome of a sheet that starts no work: zeros.
+// The outcome of a sheet that starts no work: nothing.
 pub fn no_outcome() -> Outcome
     ensures { λ r. ⌜ r ≡ outcomeOf noContents ⌝ }
 {
     let answers = no_answers();
     let list = no_groups();
-    let ranks = [0u64; 64];
+    let zeros = old_zeros();
+    let values = [0u64; 64];
     Outcome {
         count: 0,
         answers,
         groups: Groups { count: 0, list },
-        ranks,
+        zeros,
+        values,
     }
 }

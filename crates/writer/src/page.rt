@@ -11,6 +11,7 @@ use encoding::laid::Laid;
 use encoding::laid::done;
 use encoding::laid::refuse;
 use encoding::little::put_little;
+use encoding::zeros::put_zeros;
 use permutation::cell::wide;
 use permutation::reasons::SHEET;
 use sheet::held::Groups;
@@ -83,5 +84,10 @@ pub fn put_sheet(out: &mut [u8], sheet: Sheet) -> Laid
     if laid.number != 0 {
         return refuse(laid.number);
     }
-    put_commands(out, laid.end, sheet)
+    let rest = put_commands(out, laid.end, sheet);
+    if rest.number != 0 {
+        return refuse(rest.number);
+    }
+    let zeros = sheet.zeros;
+    done(put_zeros(out, rest.end, zeros, groups.count))
 }

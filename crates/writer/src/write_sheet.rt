@@ -16,7 +16,7 @@ pub fn write_sheet(sheet: Sheet, out: &mut [u8]) -> Written
     ensures round_trips { λ r. ⌜ RoundTrips sheet (now (out .entry)) r (now (out .exit)) ⌝ }
     ensures counts { λ r. ⌜ r .length ≤ length (now (out .exit)) ⌝ }
 {
-    let mut page = [0u8; 24627];
+    let mut page = [0u8; 24692];
     let laid = put_sheet(&mut page, sheet);
     let number = laid.number;
     if number != 0 {

@@ -1,5 +1,5 @@
 //! Counts run hours on one group of four cells and keeps a setting on another.
-use turretmedlar::{count_up, rank, read, read_symbol, read_symbol_bands, store, within_reach, Reason, Spent};
+use turretmedlar::{count_up, rank, read, read_symbol, read_symbol_bands, store, value, within_reach, Reason, Spent, Zero};
 
 fn main() -> Result<(), Reason> {
     // Levels by cell name. Cell 1 has the most charge, then cells 4, 2 and 3: the permutation of rank 0.
@@ -7,6 +7,9 @@ fn main() -> Result<(), Reason> {
     let Spent { pushes, charge } = count_up(&mut hours, 10)?;
     println!("count up by 10: pushes {pushes}, charge {charge}, levels {hours:?}");
     println!("hours: rank {}", rank(read(&hours)?)?);
+
+    // They stand at [1, 2, 3, 4], from which a group on the new zero counts.
+    println!("hours on the new zero: value {}", value(read(&hours)?, Zero::New)?);
 
     // Refused: the highest level would pass 65,535. Nothing is changed.
     if let Err(reason) = count_up(&mut hours, 65_530) {

@@ -8,6 +8,7 @@ mod readings;
 mod refusals;
 mod sheets;
 mod writing;
+mod zeros;
 
 use crate::Permutation;
 

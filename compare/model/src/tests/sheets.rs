@@ -1,10 +1,10 @@
-//! Bench sheets: the example, its faults, and the longest sheet.
+//! Bench sheets: the example, its faults, and the longest sheet. `zeros` has those with a third section.
 
 use crate::bench;
 
 pub(super) const EXAMPLE: [u8; 39] = [1, 3, 3, 0, 1, 0, 2, 0, 3, 0, 1, 0, 4, 0, 0, 0, 2, 0, 3, 1, 2, 3, 0, 3, 0, 0, 0, 0, 0, 0, 0, 3, 0, 0, 0, 0, 0, 0, 0];
 
-fn text(sheet: &[u8]) -> String {
+pub(super) fn text(sheet: &[u8]) -> String {
     String::from_utf8(bench(sheet)).unwrap()
 }
 
@@ -76,10 +76,20 @@ pub(super) fn whole_sheet(groups: u8, commands: u16) -> Vec<u8> {
     sheet
 }
 
+/// "The longest sheet has 24,627 bytes", and "becomes 24,692 bytes".
+pub(super) fn longest_sheet() -> Vec<u8> {
+    let mut sheet = whole_sheet(64, 1000);
+    assert_eq!(sheet.len(), 24_627);
+    sheet.push(64);
+    sheet.extend(0..64);
+    sheet
+}
+
 #[test]
 fn longest() {
-    let sheet = whole_sheet(64, 1000);
-    assert_eq!(sheet.len(), 24_627);
+    let sheet = longest_sheet();
+    assert_eq!(sheet.len(), 24_692);
+    assert_eq!(text(&[&sheet[..], &[64]].concat()), "s 8\n");
     let text = text(&sheet);
     assert_eq!(text.lines().count(), 1064);
     assert!(text.lines().take(1000).all(|line| line.split(' ').nth(2) == Some("0")));

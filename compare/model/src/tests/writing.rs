@@ -1,9 +1,9 @@
 //! Held sheets written: the example, each refusal and which is met first, what no sheet of bytes holds, and what is read again.
 
 use super::permutation;
-use super::sheets::{whole_sheet, EXAMPLE};
+use super::sheets::{longest_sheet, EXAMPLE};
 use crate::Reason::{self, Fit, Muddle, Paper, Size, Tie};
-use crate::{read_sheet, write_sheet, Command, Group, Job, Permutation, Sheet};
+use crate::{read_sheet, write_sheet, Command, Group, Job, Permutation, Sheet, Zero};
 
 fn count_up(group: u8, k: u32) -> Command {
     Command { group, job: Job::CountUp { k } }
@@ -17,17 +17,17 @@ fn store(group: u8, m: u64, symbol: u64) -> Command {
     Command { group, job: Job::Store { m, symbol } }
 }
 
-fn sheet(groups: &[&[u16]], commands: &[Command]) -> Sheet {
+pub(super) fn sheet(groups: &[&[u16]], commands: &[Command]) -> Sheet {
     Sheet { groups: groups.iter().map(|levels| Group::from_levels(levels)).collect(), commands: commands.to_vec() }
 }
 
 /// Document 01's example.
-fn example() -> Sheet {
+pub(super) fn example() -> Sheet {
     sheet(&[&[3, 1, 2]], &[count_up(0, 4), rewrite(0, permutation(&[3, 1, 2])), store(0, 3, 3)])
 }
 
 /// The sheet's bytes, from a lent list of so many. "Bytes past it keep their values", and all do where it is refused.
-fn written_in(sheet: &Sheet, room: usize) -> Result<Vec<u8>, Reason> {
+pub(super) fn written_in(sheet: &Sheet, room: usize) -> Result<Vec<u8>, Reason> {
     let mut out = vec![77; room];
     let length = write_sheet(sheet, &mut out);
     let (bytes, past) = out.split_at(length.unwrap_or(0));
@@ -35,8 +35,8 @@ fn written_in(sheet: &Sheet, room: usize) -> Result<Vec<u8>, Reason> {
     length.map(|_| bytes.to_vec())
 }
 
-fn written(sheet: &Sheet) -> Result<Vec<u8>, Reason> {
-    written_in(sheet, 24_627)
+pub(super) fn written(sheet: &Sheet) -> Result<Vec<u8>, Reason> {
+    written_in(sheet, 24_692)
 }
 
 #[test]
@@ -55,10 +55,12 @@ fn target(command: &mut Command) -> &mut Permutation {
     }
 }
 
-/// Two groups, then a rewrite on each with a command after it.
+/// Two groups, then a rewrite on each with a command after it, then the third section, of which the last byte is what paper lacks.
 fn whole() -> Sheet {
     let commands = [rewrite(0, permutation(&[3, 1, 2])), count_up(1, 9), rewrite(1, permutation(&[2, 1])), store(0, 6, 5)];
-    sheet(&[&[3, 1, 2], &[7, 9]], &commands)
+    let mut whole = sheet(&[&[3, 1, 2], &[7, 9]], &commands);
+    whole.groups[1].zero = Zero::New;
+    whole
 }
 
 /// The reason of a fault, and how to make it.
@@ -109,7 +111,7 @@ fn limits() {
     }
     let levels: [u16; 20] = std::array::from_fn(|cell| cell as u16);
     for (n, expected) in [(0, Some(Size)), (1, Some(Size)), (2, None), (20, None), (21, Some(Size)), (258, Some(Size)), (usize::MAX, Some(Size))] {
-        assert_eq!(written(&Sheet { groups: vec![Group { n, levels }], commands: vec![] }).err(), expected, "{n} cells");
+        assert_eq!(written(&Sheet { groups: vec![Group { n, levels, zero: Zero::New }], commands: vec![] }).err(), expected, "{n} cells");
     }
     for (group, expected) in [(0, None), (63, None), (64, Some(Reason::Sheet)), (255, Some(Reason::Sheet))] {
         for command in [count_up(group, 0), store(group, 0, 0), rewrite(group, permutation(&[0, 0, 0]))] {
@@ -135,26 +137,34 @@ fn what_is_not_judged() {
     }
 }
 
-/// "An accepted sheet, read and written, must have equal bytes", and is read again as the same groups and commands.
-#[test]
-fn read_and_written() {
+/// "An accepted sheet, read and written, must have equal bytes", and is read again as the same groups and commands. Gives how many are accepted that differ from
+/// this one in one byte, or in none, for each byte.
+fn accepted(sheet: &[u8]) -> usize {
     let mut accepted = 0;
-    for (at, value) in (0..EXAMPLE.len()).flat_map(|at| (0..=255).map(move |value| (at, value))) {
-        let mut bytes = EXAMPLE;
+    for (at, value) in (0..sheet.len()).flat_map(|at| (0..=255).map(move |value| (at, value))) {
+        let mut bytes = sheet.to_vec();
         bytes[at] = value;
         if let Ok(held) = read_sheet(&bytes) {
             assert_eq!(written(&held).as_deref(), Ok(&bytes[..]));
             accepted += 1;
         }
     }
+    accepted
+}
+
+#[test]
+fn read_and_written() {
     // Six bytes of levels, whose low ones can make a tie with either other level; k, names, m and s, which are free; ten counts, kinds and group numbers.
-    assert_eq!(accepted, 6 * 256 - 6 + 23 * 256 + 10);
+    let expected = 6 * 256 - 6 + 23 * 256 + 10;
+    assert_eq!(accepted(&EXAMPLE), expected);
+    // The count and the number of the third section, each in one way.
+    assert_eq!(accepted(&[&EXAMPLE[..], &[1, 0]].concat()), expected + 2);
 }
 
 #[test]
 fn longest() {
-    let bytes = whole_sheet(64, 1000);
+    let bytes = longest_sheet();
     let held = read_sheet(&bytes).unwrap();
     assert_eq!(written(&held), Ok(bytes));
-    assert_eq!(written_in(&held, 24_626), Err(Paper));
+    assert_eq!(written_in(&held, 24_691), Err(Paper));
 }

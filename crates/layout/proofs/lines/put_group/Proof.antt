@@ -14,19 +14,19 @@ use Rattle.work.proofs.Working.{group-size, group-few}
 use Rattle.layout.proofs.lines.put_group.Statement.{statement}
 use Rattle.layout.proofs.lines.put_group.Tie as tie
 
--- from each put the one before: the letter, the group's number, its rank
+-- from each put the one before: the letter, the group's number, its value
 abbrev letter : tie.After-put-field → tie.After-put-byte
 letter c = c .before .before .before .before
 
 abbrev number : tie.After-put-field2 → tie.After-put-field
 number c = c .before .before .before .before
 
-abbrev rank : tie.After-put-levels → tie.After-put-field2
-rank c = c .before .before .before .before .before
+abbrev value : tie.After-put-levels → tie.After-put-field2
+value c = c .before .before .before .before .before
 
 -- the first two fields have 3 and 21 bytes at most, and there are as many levels as the group says, twenty at most
 sizes : (c : tie.After-put-byte)
-    → let a = c .before .before .before .before .args in (length (field (a .g)) ≤ 3) × (length (field (a .rank)) ≤ 21)
+    → let a = c .before .before .before .before .args in (length (field (a .g)) ≤ 3) × (length (field (a .value)) ≤ 21)
     × (a .group .n ≡ length (levelsOf (a .group))) × (a .group .n ≤ 20) × (length (a .group .levels) ≡ 20)
 sizes c =
     let held = c .before .before .before .before .pre .2 in
@@ -51,7 +51,7 @@ put-levels-requires : tie.Need-put-levels-requires
 put-levels-requires c κs = let w = sizes (letter (number (c .before .before .before .before))) in omega arith
 
 put-byte-requires-2 : tie.Need-put-byte-requires-2
-put-byte-requires-2 c κs = let w = sizes (letter (number (rank (c .before .before .before)))) in omega arith
+put-byte-requires-2 c κs = let w = sizes (letter (number (value (c .before .before .before)))) in omega arith
 
 same-length : tie.Need-same-length
 same-length c = search needs
@@ -61,11 +61,11 @@ unfolding groupLine
 returns c =
     let end = c .before .before in
     let levels = end .before .before .before .before in
-    let ranked = rank levels in let numbered = number ranked in
+    let valued = value levels in let numbered = number valued in
     let first = letter numbered in
     let s = first .before .before .before .before in
-    let put = puts-then (numbered .put-field .ensures) (puts-then (ranked .put-field2 .ensures) (levels .put-levels .ensures .0)) in
-    (rw (← s .pre .3) (puts-line (_ ∷ _ ∷ levelsOf (s .args .group)) (first .put-byte .ensures) put (end .put-byte2 .ensures)), omega (arith, sizes first))
+    let put = puts-then (numbered .put-field .ensures) (puts-then (valued .put-field2 .ensures) (levels .put-levels .ensures .0)) in
+    (puts-line (_ ∷ _ ∷ levelsOf (s .args .group)) (first .put-byte .ensures) put (end .put-byte2 .ensures), omega (arith, sizes first))
 
 pub put-group-spec : {M : Type 1} → statement M
 put-group-spec =

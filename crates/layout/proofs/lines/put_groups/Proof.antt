@@ -1,25 +1,28 @@
 -- `layout::lines::put_groups` meets its contract: the lines of the groups up to g were put. Assumes nothing.
 use mathlib.Core.Path.{_≡_}
 use mathlib.Core.List.{[]}
-use Prim.Native.Nat.{_-_}
+use Prim.Native.Nat.{_-_, _≤_}
 use native.Mathlib.Omega.{arith}
 use lib.ListN.{length}
 use borrow.Author.Needs.{needs}
-use Rattle.sheet.specs.Held.{groupsIn}
-use Rattle.sheet.proofs.InMemory.{held-count, held-levels}
-use Rattle.layout.specs.Text.{groupLines}
 use Rattle.sheet.proofs.Putting.{Row, row-start, row-next, row-end}
-use Rattle.layout.proofs.Pieces.{groups-grow}
+use Rattle.layout.proofs.Pieces.{valuedLines, groups-grow, lines-valued, groupsValued, valued-count, valued-line}
 use Rattle.work.proofs.Working.{group-at-held}
-use Rattle.layout.proofs.Pieces.{rank-at}
 use Rattle.layout.proofs.lines.put_groups.Statement.{statement}
 use Rattle.layout.proofs.lines.put_groups.Tie as tie
 
 abbrev Inv-loop : tie.InvT-loop
-Inv-loop text₀ from outcome groups count at₀ g₀ text at g = Row (groupLines 0) (groupsIn groups) 146 text₀ from text at g
+Inv-loop text₀ from outcome groups count at₀ g₀ text at g = Row (valuedLines 0) (groupsValued outcome) 146 text₀ from text at g
 
 abbrev μ-loop : tie.MeasureT-loop
 μ-loop text₀ from outcome groups count at₀ g₀ text at g = count - g
+
+-- each group has a value beside it
+values-enough : (c : tie.Start Inv-loop μ-loop) → c .args .t3 .groups .count ≤ length (c .args .t3 .values)
+values-enough c = let long : length (c .args .t3 .values) ≡ 64 = search needs in omega (arith, c .pre .1 .few)
+
+count-is : (c : tie.Start Inv-loop μ-loop) → length (groupsValued (c .args .t3)) ≡ c .args .t3 .groups .count
+count-is c = valued-count (c .args .t3) (c .pre .1) (values-enough c)
 
 loop-holds : tie.Need-loop-holds Inv-loop μ-loop
 loop-holds c = row-start groups-grow _ _ _ _
@@ -40,9 +43,8 @@ put-group-requires : tie.Need-put-group-requires Inv-loop μ-loop
 put-group-requires c κs =
     let at = c .before .before .before .before in
     let h = at .before .before .before .pre .1 in
-    let few = h .holds .few in
-    let below = c .before .before .before .loop-test .taken in
-    (omega arith, omega arith, group-at-held (h .holds) (at .loop .g) below _, rank-at h (at .loop .g) below _)
+    let few = h .few in
+    (omega arith, omega arith, group-at-held h (at .loop .g) (c .before .before .before .loop-test .taken) _)
 
 add-g : tie.Need-add-g Inv-loop μ-loop
 add-g c = search needs
@@ -54,9 +56,10 @@ loop-again : tie.Need-loop-again Inv-loop μ-loop
 loop-again c =
     let put = c .before .before in
     let turn = put .before .before .before .before in
-    let h = turn .before .before .before .before .pre .1 .holds in
-    let line = rw (held-levels h (turn .before .loop .g) (turn .loop-test .taken) (record { n = 0; levels = [] })) at (put .put-group .ensures .0) in
-    row-next groups-grow _ _ _ _ (turn .before .loop .inv) (omega (arith, held-count h)) [] line (put .put-group .ensures .1)
+    let s = turn .before .before .before .before in
+    let is = valued-line (s .args .t3) (s .pre .1) (values-enough s) (turn .before .loop .g) (turn .loop-test .taken) (record { n = 0; levels = [] }) in
+    let line = rw is at (put .put-group .ensures .0) in
+    row-next groups-grow _ _ _ _ (turn .before .loop .inv) (omega (arith, count-is s)) (0, []) line (put .put-group .ensures .1)
 
 same-length : tie.Need-same-length Inv-loop μ-loop
 same-length c = c .before .loop .inv .put .long
@@ -64,8 +67,8 @@ same-length c = c .before .loop .inv .put .long
 returns : tie.Need-returns Inv-loop μ-loop
 returns c =
     let s = c .before .before .before .before in
-    let few : s .args .t3 .groups .count ≡ length (groupsIn (s .args .t3 .groups)) = held-count (s .pre .1 .holds) in
-    (row-end groups-grow _ _ _ _ (c .before .loop .inv) (omega arith), omega arith)
+    let few = count-is s in
+    (rw (lines-valued 0 _ _) (row-end groups-grow _ _ _ _ (c .before .loop .inv) (omega arith)), omega arith)
 
 pub put-groups-spec : {M : Type 1} → statement M
 put-groups-spec =

@@ -6,12 +6,12 @@ use native.Mathlib.Numerals.{add-one}
 use native.Mathlib.Omega.{arith}
 use lib.ListN.{length}
 use borrow.Author.Needs.{needs}
-use Rattle.ranking.proofs.Values.{Valued, valued-none, valued-more, valued-fits, valued-all}
+use Rattle.ranking.proofs.Values.{RowValued, valued-none, valued-more, valued-fits, valued-all}
 use Rattle.ranking.proofs.rank.row_value.Statement.{statement}
 use Rattle.ranking.proofs.rank.row_value.Tie as tie
 
 abbrev Inv-loop : tie.InvT-loop
-Inv-loop n row rank₀ m₀ rank m = Valued row n m rank
+Inv-loop n row rank₀ m₀ rank m = RowValued row n m rank
 
 abbrev μ-loop : tie.MeasureT-loop
 μ-loop n row rank₀ m₀ rank m = n - m
@@ -38,7 +38,7 @@ add-m c = search needs
 turn : (c : tie.After-wide-digit Inv-loop μ-loop) →
     let at = c .before .before in
     let value = c .wide-digit .result + (at .loop .m + 1) * at .loop .rank in
-    Valued (at .before .args .t1) (at .before .args .n) (at .loop .m + 1) value × (value < 2 ^ 64)
+    RowValued (at .before .args .t1) (at .before .args .n) (at .loop .m + 1) value × (value < 2 ^ 64)
 turn c =
     let at = c .before .before in
     let row = at .before .args .t1 in

@@ -1,9 +1,11 @@
 -- `reader::read_sheet::read_commands` meets its contract: at each return the tests that led there say which case of `commands` holds. Assumes nothing.
-use mathlib.Core.Path.{sym, ap, _∙_}
+use mathlib.Core.Path.{_≡_, sym, ap, _∙_}
 use native.Mathlib.Omega.{arith}
 use borrow.Author.Needs.{needs}
-use Rattle.sheet.specs.Held.{sheetAnswer}
+use Rattle.sheet.specs.Sheet.{commands}
+use Rattle.sheet.specs.Held.{sheetAnswer, groupsIn}
 use Rattle.sheet.proofs.ByTests.{commands-short, commands-many, commands-row}
+use Rattle.reader.proofs.Refused.{refused-anew}
 use Rattle.reader.proofs.read_sheet.read_commands.Statement.{statement}
 use Rattle.reader.proofs.read_sheet.read_commands.Tie as tie
 
@@ -33,10 +35,21 @@ add-read-entries c = search needs
 read-entries-requires : tie.Need-read-entries-requires
 read-entries-requires c κs = search needs
 
-returns-4 : tie.Need-returns-4
-returns-4 c =
+-- what is read of the entries is the sheet's
+rest-is : (c : tie.After-read-entries)
+    → let a = c .before .before .before .before .before .before .args in
+    c .read-entries .result ≡ sheetAnswer (commands (groupsIn (a .groups)) (a .s .now) (a .at))
+rest-is c =
     c .read-entries .ensures
     ∙ ap sheetAnswer (sym (commands-row _ _ _ _ (omega arith) (c .before .before .little .ensures .0) (c .before .if3 .left)))
+
+returns-4 : tie.Need-returns-4
+returns-4 c =
+    let read = c .before .before .before in
+    c .refuse4 .ensures ∙ refused-anew (read .read-entries .result) _ (rest-is read) (c .before .if4 .taken)
+
+returns-5 : tie.Need-returns-5
+returns-5 c = rest-is (c .before .before)
 
 pub read-commands-spec : {M : Type 1} → statement M
 read-commands-spec =
@@ -52,4 +65,6 @@ read-commands-spec =
     returns-3
     add-read-entries
     read-entries-requires
-    returns-4)
+    (λ c κs. tt)
+    returns-4
+    returns-5)

@@ -1,4 +1,4 @@
--- `reader::read_sheet::read_entries` meets its contract: the first i commands are in the row, and the rest is read from `at` on. Assumes nothing.
+-- `reader::read_sheet::read_entries` meets its contract: the first i commands are in the row, and the rest is read from `at` on; then the zeros. Assumes nothing.
 use mathlib.Core.Path.{_≡_, sym, ap, _∙_}
 use mathlib.Core.List.{List, map, map-id}
 use Prim.Native.Nat.{ℕ, _-_, _≤_}
@@ -7,19 +7,21 @@ use borrow.Author.Needs.{needs}
 use lib.ListN.{length, take}
 use lib.Seq.{length-take-le}
 use Rattle.sheet.specs.Bytes.{Got}
+use Rattle.sheet.specs.ZeroSection.{zerosAt}
 use Rattle.sheet.specs.Sheet.{command}
 use Rattle.theory.specs.Lists.{padded}
 use Rattle.sheet.specs.Held.{noEntry, sheetAnswer, groupsIn}
-use Rattle.sheet.specs.Parts.{entryAnswer}
+use Rattle.sheet.specs.Parts.{entryAnswer, zerosAnswer}
 use Rattle.sheet.specs.declared.held.Groups.{Groups}
 use Rattle.sheet.specs.declared.held.Entry.{Entry}
 use Rattle.sheet.specs.declared.held.Sheet.{Sheet}
 use Rattle.sheet.specs.declared.commands.EntryRead.{EntryRead}
+use Rattle.sheet.specs.declared.zeros.ZerosRead.{ZerosRead}
 use Rattle.sheet.proofs.Valid.{small}
-use Rattle.sheet.proofs.InMemory.{sizes-front, sheet-held}
+use Rattle.sheet.proofs.InMemory.{held-count, sizes-front, sheet-held}
 use Rattle.reader.proofs.Loops.{Turns, turns-none, turns-more, turns-stop, turns-all, turns-long}
-use Rattle.sheet.proofs.FaultNumbers.{entry-tells-fault, answered-fault, answered-got}
-use Rattle.sheet.proofs.ByTests.{row-fault, row-more, row-ends}
+use Rattle.sheet.proofs.FaultNumbers.{entry-tells-fault, zeros-tells-fault, answered-fault, answered-got}
+use Rattle.sheet.proofs.ByTests.{row-fault, row-bad, row-ends}
 use Rattle.reader.proofs.read_sheet.read_entries.Statement.{statement}
 use Rattle.reader.proofs.read_sheet.read_entries.Tie as tie
 
@@ -48,6 +50,17 @@ found-now : (c : tie.After-read-command Inv-loop μ-loop)
     → let a = sized (c .before) .before .before .args in
     c .read-command .result ≡ entryAnswer (reader (a .groups) (a .s .now) (c .before .before .before .loop .at))
 found-now c = rw (sizes-now (sized (c .before))) at (c .read-command .ensures)
+
+abbrev sized-end : tie.After-loop Inv-loop μ-loop → tie.After-sizes-of Inv-loop μ-loop
+sized-end c = c .before .before .before
+
+-- what stands after the commands are the zeros of its groups
+last-now : (c : tie.After-read-zeros Inv-loop μ-loop)
+    → let a = sized-end (c .before) .before .before .args in
+    c .read-zeros .result ≡ zerosAnswer (zerosAt (length (groupsIn (a .groups))) (a .s .now) (c .before .before .loop .at))
+last-now c =
+    let start = sized-end (c .before) .before .before in
+    c .read-zeros .ensures ∙ ap (λ (G : ℕ). zerosAnswer (zerosAt G (start .args .s .now) (c .before .before .loop .at))) (held-count (start .pre .1))
 
 sizes-of-requires : tie.Need-sizes-of-requires Inv-loop μ-loop
 sizes-of-requires c κs = c .before .pre .1
@@ -98,22 +111,29 @@ loop-again c =
     turns-more (l .inv) (search needs) (search needs) (good .0) (good .1) (good .2) _ _
     (ap (λ (r : EntryRead). r .entry) (good .3)) (ap (λ (r : EntryRead). r .next) (good .3))
 
+read-zeros-requires : tie.Need-read-zeros-requires Inv-loop μ-loop
+read-zeros-requires c κs = sized-end c .before .before .pre .1 .few
+
 returns-2 : tie.Need-returns-2 Inv-loop μ-loop
 unfolding sheetAnswer
 returns-2 c =
-    c .refuse2 .ensures ∙ ap sheetAnswer (sym (row-more _ _ _ _ _ _ (turns-all (c .before .before .before .loop .inv) (search needs)) (λ e. omega arith)))
+    let last = c .before .before .before in
+    let bad = answered-fault zeros-tells-fault (last .read-zeros .result) _ (last-now last) (c .before .if2 .taken) in
+    let all = turns-all (last .before .before .loop .inv) (search needs) in
+    c .refuse2 .ensures ∙ rw (bad .2) (ap sheetAnswer (sym (row-bad _ _ _ _ _ _ all (bad .0) (bad .1))))
 
 returns-3 : tie.Need-returns-3 Inv-loop μ-loop
-unfolding sheetAnswer
+unfolding sheetAnswer zerosAnswer
 returns-3 c =
-    let l = c .before .before .loop in
-    let sizes = c .before .before .before .before in
-    let start = sizes .before .before in
+    let last = c .before .before .before in
+    let l = last .before .before .loop in
+    let start = sized-end (last .before) .before .before in
     let done : start .args .count ≤ l .i = search needs in
+    let good = answered-got zeros-tells-fault (last .read-zeros .result) _ (last-now last) (c .before .if2 .left) in
     let front = l .inv .front ∙ ap (padded 1000 noEntry) (map-id (l .inv .read)) in
     ap (λ (s : Sheet). record { number = 0; sheet = s })
-    (sheet-held (start .pre .1) _ (l .entries) (l .inv .read) (turns-long (l .inv) done) front)
-    ∙ ap sheetAnswer (sym (row-ends _ _ _ _ _ _ (turns-all (l .inv) done) (c .if2 .left)))
+    (sheet-held (start .pre .1) _ (good .0) (ap (λ (r : ZerosRead). r .zeros) (good .3)) _ (l .entries) (l .inv .read) (turns-long (l .inv) done) front)
+    ∙ ap sheetAnswer (sym (row-ends _ _ _ _ _ _ (turns-all (l .inv) done) (good .0) (good .1) (good .2)))
 
 pub read-entries-spec : {M : Type 1} → statement M
 read-entries-spec =
@@ -134,6 +154,7 @@ read-entries-spec =
     add-i
     loop-less
     loop-again
+    read-zeros-requires
     (λ c κs. tt)
     returns-2
     returns-3)

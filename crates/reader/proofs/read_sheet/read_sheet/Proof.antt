@@ -4,7 +4,7 @@ use mathlib.Core.List.{List}
 use Prim.Native.Nat.{ℕ, _-_}
 use native.Mathlib.Omega.{arith}
 use borrow.Author.Needs.{needs}
-use Rattle.sheet.specs.Sheet.{group, commands}
+use Rattle.sheet.specs.Sheet.{group, commands, sheet}
 use Rattle.sheet.specs.Held.{groupOf, noGroup, groupsOf, sheetAnswer, groupsIn}
 use Rattle.sheet.specs.Parts.{groupAnswer}
 use Rattle.sheet.specs.declared.held.Groups.{Groups}
@@ -13,6 +13,7 @@ use Rattle.sheet.proofs.InMemory.{groups-back, read-hold}
 use Rattle.reader.proofs.Loops.{Turns, turns-none, turns-more, turns-stop, turns-all, turns-long}
 use Rattle.sheet.proofs.FaultNumbers.{group-tells-fault, answered-fault, answered-got}
 use Rattle.sheet.proofs.ByTests.{sheet-none, sheet-few, sheet-many, sheet-fault, sheet-groups}
+use Rattle.reader.proofs.Refused.{refused-anew}
 use Rattle.reader.proofs.read_sheet.read_sheet.Statement.{statement}
 use Rattle.reader.proofs.read_sheet.read_sheet.Tie as tie
 
@@ -89,8 +90,11 @@ read-commands-requires c κs =
     let l = c .before .loop in
     rw (held-now c) (read-hold _ _ _ (l .inv .read) _ (turns-all (l .inv) (search needs)) (search needs))
 
-returns-5 : tie.Need-returns-5 Inv-loop μ-loop
-returns-5 c =
+-- what is read past the groups is the sheet's
+rest-is : (c : tie.After-read-commands Inv-loop μ-loop)
+    → let counted = c .before .before .before .before .before .before in
+    c .read-commands .result ≡ sheetAnswer (sheet (counted .before .before .before .before .args .bytes .now))
+rest-is c =
     let l = c .before .before .loop in
     let tests = c .before .before .before .before in
     let counted = tests .before .before in
@@ -100,6 +104,14 @@ returns-5 c =
     sheet-groups bytes _ (omega arith) (counted .wide .ensures) (tests .before .if2 .left) (tests .if3 .left) (l .inv .read) _
     (turns-all (l .inv) (search needs)) in
     c .read-commands .ensures ∙ ap sheetAnswer (ap (λ (Ls : List (List ℕ)). commands Ls bytes (l .at)) back ∙ sym whole)
+
+returns-5 : tie.Need-returns-5 Inv-loop μ-loop
+returns-5 c =
+    let read = c .before .before .before in
+    c .refuse5 .ensures ∙ refused-anew (read .read-commands .result) _ (rest-is read) (c .before .if5 .taken)
+
+returns-6 : tie.Need-returns-6 Inv-loop μ-loop
+returns-6 c = rest-is (c .before .before)
 
 pub read-sheet-spec : {M : Type 1} → statement M
 read-sheet-spec =
@@ -126,4 +138,6 @@ read-sheet-spec =
     loop-less
     loop-again
     read-commands-requires
-    returns-5)
+    (λ c κs. tt)
+    returns-5
+    returns-6)

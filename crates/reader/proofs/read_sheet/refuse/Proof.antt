@@ -5,7 +5,7 @@ use Rattle.reader.proofs.read_sheet.refuse.Tie as tie
 
 returns : tie.Need-returns
 unfolding heldOf
-returns c = rw (c .before .no-groups .ensures, c .no-entries .ensures)
+returns c = rw (c .before .before .no-groups .ensures, c .before .old-zeros .ensures, c .no-entries .ensures)
 
 pub refuse-spec : {M : Type 1} → statement M
-refuse-spec = tie.close (tie.spec (λ c κs. tt) (λ c κs. tt) returns)
+refuse-spec = tie.close (tie.spec (λ c κs. tt) (λ c κs. tt) (λ c κs. tt) returns)

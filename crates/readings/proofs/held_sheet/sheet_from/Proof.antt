@@ -5,10 +5,10 @@ use Rattle.readings.proofs.held_sheet.sheet_from.Statement.{statement}
 use Rattle.readings.proofs.held_sheet.sheet_from.Tie as tie
 
 abbrev Inv-loop : tie.InvT-loop
-Inv-loop numbers at groups count entries₀ next₀ i₀ entries next i = i ≤ 1000
+Inv-loop numbers at groups total count entries₀ next₀ i₀ entries next i = i ≤ 1000
 
 abbrev μ-loop : tie.MeasureT-loop
-μ-loop numbers at groups count entries₀ next₀ i₀ entries next i = 1000 - i
+μ-loop numbers at groups total count entries₀ next₀ i₀ entries next i = 1000 - i
 
 loop-holds : tie.Need-loop-holds Inv-loop μ-loop
 loop-holds c = search needs
@@ -31,9 +31,6 @@ loop-again c = search needs
 returns : tie.Need-returns Inv-loop μ-loop
 returns c = search needs
 
-returns-2 : tie.Need-returns-2 Inv-loop μ-loop
-returns-2 c = search needs
-
 pub sheet-from-spec : {M : Type 1} → statement M
 sheet-from-spec =
     tie.close
@@ -51,5 +48,5 @@ sheet-from-spec =
     add-i
     loop-less
     loop-again
-    returns
-    returns-2)
+    (λ c κs. tt)
+    returns)

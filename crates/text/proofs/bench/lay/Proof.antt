@@ -28,7 +28,7 @@ put-groups-requires : tie.Need-put-groups-requires
 put-groups-requires c κs =
     let commands = c .before .before .before in
     let p = printed (commands .before .before .before) in
-    (omega (arith, p .few, p .outcome-held .holds .few), p .outcome-held)
+    (omega (arith, p .few, p .groups-held .few), p .groups-held)
 
 same-length-2 : tie.Need-same-length-2
 same-length-2 c = search needs
@@ -39,7 +39,7 @@ returns-2 c =
     let commands = groups .before .before .before .before in
     let p = printed (commands .before .before .before) in
     let put = puts-then (commands .put-commands .ensures .0) (groups .put-groups .ensures .0) in
-    (rw (p .text) at put, omega (arith, p .few, p .outcome-held .holds .few))
+    (rw (p .text) at put, omega (arith, p .few, p .groups-held .few))
 
 pub lay-spec : {M : Type 1} → statement M
 lay-spec =

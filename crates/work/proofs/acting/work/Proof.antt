@@ -68,13 +68,13 @@ loop-again c =
     let at = turn named .before in
     step (at .before .before .before .pre) (at .loop .inv) (turn named .loop-test .taken) _ (named .wide .ensures) _ (c .before .before .act-group .ensures)
 
-ranks-of-requires : tie.Need-ranks-of-requires Inv-loop μ-loop
-ranks-of-requires c κs = progress-held (c .before .before .before .before .pre) (c .before .loop .inv)
+values-of-requires : tie.Need-values-of-requires Inv-loop μ-loop
+values-of-requires c κs = let at = c .before .before in progress-held (at .before .before .before .pre) (at .loop .inv)
 
 returns : tie.Need-returns Inv-loop μ-loop
 returns c =
-    let at = c .before .before in
-    end (at .before .before .before .pre) (at .loop .inv) (c .before .loop-test .left) (c .ranks-of .ensures)
+    let at = c .before .before .before in
+    end (at .before .before .before .pre) (at .loop .inv) (c .before .before .loop-test .left) (c .values-of .ensures)
 
 pub work-spec : {M : Type 1} → statement M
 work-spec =
@@ -97,5 +97,5 @@ work-spec =
     add-i
     loop-less
     loop-again
-    ranks-of-requires
+    values-of-requires
     returns)
