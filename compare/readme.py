@@ -10,7 +10,7 @@ from pathlib import Path
 ROOT = Path(__file__).resolve().parent.parent
 BLOCK = re.compile(r"^```(\w+)\n(.*?)^```$", re.M | re.S)
 VERSIONS = {"README.md": r"^Version (\S+),", "include/turretmedlar.h": r'^#define TM_VERSION "(.*)"$', "compare/bindings/Cargo.toml": r'^version = "(.*)"$'}
-CHECKS = 12
+CHECKS = 13
 
 
 def checks(readme):

@@ -29,7 +29,7 @@ extern "C" {
 
 /* The version of this header and its library; README.md and the Rust package have the same. The second number counts landings (docs/landings/), each of which
  * may change what a caller sees; the third counts corrections since, which change nothing that a caller relies on. The first is 0 until a release. */
-#define TM_VERSION "0.14.0"
+#define TM_VERSION "0.15.0"
 /* The most cells of a group, and the places of a record's row. */
 #define TM_CELLS 20
 /* The most bytes of a sheet without fault; a longer one is faulty. */
@@ -226,8 +226,9 @@ tm_symbol tm_read_symbol_bands(const uint16_t *lowest, size_t n, const uint16_t 
 
 /* Works through a bench sheet of `length` bytes and lays the whole printed text, as documents 01 and 02 give it, in the first bytes of `text`, which has `room`
  * bytes. Gives the text's length; no 0 byte is put after it. A faulty sheet is done too: its text is one line, "s", a space, the number of the first fault met
- * (1 size, 4 tie, 8 sheet) and a newline. Each command of a good sheet has its own number in its line: 0, 3 muddle, 5 value or 6 ceiling. The line of a group has
- * its number, its value on its zero, and its levels. README.md works an example byte by byte.
+ * (1 size, 4 tie, 8 sheet) and a newline. Each command of a good sheet has its own number in its line: 0, 3 muddle, 5 value or 6 ceiling; a change to the new zero
+ * has 0, and 0 pushes. The line of a group has its number, its value on the zero on which the commands leave it, and its levels. README.md works an example byte by
+ * byte.
  * Refused: 2 fit, the text has more than `room` bytes. With TM_TEXT_BYTES it is never refused.
  * Unchanged: `sheet`, always, and the bytes of `text` after the text; refused, all of `text`. */
 tm_printed tm_bench(const uint8_t *sheet, size_t length, uint8_t *text, size_t room);
@@ -239,10 +240,11 @@ tm_printed tm_bench(const uint8_t *sheet, size_t length, uint8_t *text, size_t r
  * other:
  * - sizes: n of each group, so that its length is the number of groups;
  * - levels: 20 places to a group, its levels by cell name; places past n are not looked at;
- * - zeros: of each group, 0 old, 1 new (enum tm_zero); where one is new, the sheet ends with a section that names those that are;
- * - kinds: of each command, 1 count up, 2 rewrite, 3 store, so that its length is the number of commands;
+ * - zeros: of each group, 0 old, 1 new (enum tm_zero), before the first command; where one is new, the sheet ends with a section that names those that are;
+ * - kinds: of each command, 1 count up, 2 rewrite, 3 store, 4 change to the new zero, so that its length is the number of commands;
  * - groups: the group number of each command, from 0;
- * - numbers: 2 places to a command: k of a count up, n of a rewrite's target (and in both a place that is not looked at), m and s of a store;
+ * - numbers: 2 places to a command: k of a count up, n of a rewrite's target (and in both a place that is not looked at), m and s of a store; those of a change are
+ *   not looked at;
  * - names: 20 places to a command, the row of a rewrite's target; those of other kinds are not looked at.
  * What stands in a list past these rows is not looked at. Document 01's sheet, of 39 bytes:
  *
@@ -257,7 +259,7 @@ tm_printed tm_bench(const uint8_t *sheet, size_t length, uint8_t *text, size_t r
  *
  * Refused: 2 fit, a list is too short for the numbers of groups and of commands; then 5 value, the zero of a group is neither 0 nor 1. Then the first met in the
  * sheet's sequence: 8 sheet, there are not 1 to 64 groups; for each group, 1 size, n is not 2 to 20, then 4 tie, two of its levels are equal; 8 sheet, there are
- * more than 1,000 commands; for each command, 8 sheet, its kind is not 1 to 3, its k is above 4,294,967,295 or there is no such group, and for a rewrite, 2 fit,
+ * more than 1,000 commands; for each command, 8 sheet, its kind is not 1 to 4, its k is above 4,294,967,295 or there is no such group, and for a rewrite, 2 fit,
  * its n is not its group's, then 3 muddle, a name past n is not 0. The names inside n are not judged: tm_bench does so. After all these 9 paper, the sheet has more
  * than `room` bytes.
  * Unchanged: the seven lists, always, and the bytes of `out` after the sheet; refused, all of `out`. */

@@ -307,7 +307,7 @@ static void check_writing(void) {
     CHECK(unwritten(unzeroed, 64, TM_VALUE));
     unsized.sizes[0] = 21;
     tied.levels[2] = 3;
-    kind.kinds[2] = 4;
+    kind.kinds[2] = 5;
     group.groups[2] = 1;
     count.numbers[0] = 4294967296;
     unfit.numbers[2] = 2;
@@ -318,6 +318,40 @@ static void check_writing(void) {
     unseen.numbers[1] = unseen.numbers[3] = 9;
     unseen.names[0] = unseen.names[2 * TM_CELLS] = 9;
     CHECK(write_held(unseen, out, sizeof out).length == sizeof sheet && memcmp(out, sheet, sizeof sheet) == 0);
+}
+
+/* What is written of this is these bytes and no more, and its text is this one. */
+static int writes(held h, const uint8_t *bytes, size_t length, const char *expected) {
+    uint8_t out[64], blank[64], text[64];
+    memset(out, 'x', sizeof out);
+    memset(blank, 'x', sizeof blank);
+    tm_written answer = write_held(h, out, length);
+    tm_printed printed = tm_bench(out, length, text, sizeof text);
+    int written = answer.number == TM_DONE && answer.length == length && memcmp(out, bytes, length) == 0 && memcmp(out + length, blank, sizeof out - length) == 0;
+    return written && printed.number == TM_DONE && printed.length == strlen(expected) && memcmp(text, expected, strlen(expected)) == 0;
+}
+
+/* Document 02, request 8: a change to the new zero in the place of that sheet's store, of a group on either zero; then between two counts. Of its row only the group
+ * number is looked at. */
+static void check_change(void) {
+    const uint8_t last[] = {1, 3, 3, 0, 1, 0, 2, 0, 3, 0, 1, 0, 4, 0, 0, 0, 2, 0, 3, 1, 2, 4, 0, 1, 0};
+    const uint8_t between[] = {1, 3, 3, 0, 1, 0, 2, 0, 3, 0, 1, 0, 4, 0, 0, 0, 4, 0, 1, 0, 1, 0, 0, 0};
+    held change = paper, counts = paper, group;
+    change.kinds[2] = 4;
+    change.numbers[4] = change.numbers[5] = UINT64_MAX;
+    change.names[3 * TM_CELLS - 1] = 255;
+    CHECK(writes(change, last, sizeof last - 2, "c 1 0 4\nc 2 0 1\nc 3 0 0\ng 0 1 7 6 8\n") && unwritten(change, sizeof last - 3, TM_PAPER));
+    group = change;
+    group.groups[2] = 1;
+    CHECK(unwritten(group, 64, TM_SHEET));
+    change.zeros[0] = TM_NEW_ZERO;
+    CHECK(writes(change, last, sizeof last, "c 1 0 4\nc 2 0 1\nc 3 0 0\ng 0 1 7 6 8\n") && unwritten(change, sizeof last - 1, TM_PAPER));
+    counts.kinds[1] = 4;
+    counts.kinds[2] = 1;
+    counts.numbers[4] = 1;
+    CHECK(writes(counts, between, sizeof between, "c 1 0 4\nc 2 0 0\nc 3 0 1\ng 0 1 7 6 8\n"));
+    uint8_t text[64];
+    CHECK(tm_bench(last, sizeof last - 3, text, sizeof text).length == 4 && memcmp(text, "s 8\n", 4) == 0);
 }
 
 /* "with length 0 the address is not used and may be NULL" */
@@ -353,6 +387,7 @@ int main(void) {
     check_reach();
     check_sheet();
     check_writing();
+    check_change();
     check_null();
     printf("%d passed, %d failed\n", passed, failed);
     return failed != 0;

@@ -135,6 +135,15 @@ ZEROED = {f"write 41 | {HELD} | 1": f"0 41 | {HELD_BYTES} 1 0", f"write 40 | {HE
           "write 26 | 3 | 2 7 9 | 3 3 1 2 | 2 9 7 | 0 | 1 0 1": "0 23 | 3 2 7 0 9 0 3 3 0 1 0 2 0 2 9 0 7 0 0 0 2 0 2 9 9 9",
           "write 26 | 3 | 2 7 9 | 3 3 1 2 | 2 9 7 | 0 | 0 0 0": "0 20 | 3 2 7 0 9 0 3 3 0 1 0 2 0 2 9 0 7 0 0 0 9 9 9 9 9 9"}
 
+# Document 02, request 8: kind 4 in bytes, "with a group byte and nothing more". Document 01's sheet with a change, and paper; two groups, of which the second is on the
+# new zero, with three changes; a group number past the last
+HELD_CHANGED = "1 | 3 3 1 2 | 4 | 1 0 4 | 4 0 | 2 0 3 3 3 1 2 | 3 0 3 3"
+CHANGED = {f"write 41 | {HELD_CHANGED}": "0 41 | 1 3 3 0 1 0 2 0 4 0 1 0 4 0 0 0 4 0 2 0 3 1 2 3 0 3 0 0 0 0 0 0 0 3 0 0 0 0 0 0 0",
+           f"write 40 | {HELD_CHANGED}": "9 0 |" + " 9" * 40,
+           "write 40 | 2 | 2 7 9 | 3 3 1 2 | 5 | 4 1 | 1 0 5 | 2 1 3 3 2 1 3 | 4 1 | 4 0 | 0 1":
+               "0 34 | 2 2 7 0 9 0 3 3 0 1 0 2 0 5 0 4 1 1 0 5 0 0 0 2 1 2 1 3 4 1 4 0 1 1 9 9 9 9 9 9",
+           "write 30 | 2 | 2 7 9 | 3 3 1 2 | 2 | 4 1 | 4 2": "8 0 |" + " 9" * 30, "write 0 | 1 | 2 7 9 | 1 | 4 1": "8 0 |"}
+
 # Document 001. The text at hand has no pictures: of Example 1 it has the places, of Example 9 and Fig. 2 what is said of them, of the levels in Fig. 3 no numbers.
 EXAMPLE_1 = [2, 3, 3, 2, 3, 3]
 # Example 5: the columns of the first block of C' and those of C''; of the second block the second row; the last rows of the second and the third
@@ -334,6 +343,21 @@ def check_writing(lines):
     assert number == 0 and len(made) == LONGEST and write_sheet(LONGEST - 1, *longest) == (9, [])
 
 
+def check_changes(lines):
+    for line, expected in CHANGED.items():
+        assert answer(line).split(" : ")[1] == expected and line in lines
+    # "from the old zero, counting k after the change gives the order and levels that k without it gives; only the value differs, by the rank of [1,2,...,n] modulo n!",
+    # and from the new zero nothing does: of every order of 2 to 4 cells each k of a round, and of 20 cells some
+    starts = [gapless([*order]) for n in range(2, 5) for order in permutations(range(1, n + 1))] + [[7 * cell % 23 * 100 for cell in range(20)]]
+    for levels in starts:
+        n = len(levels)
+        for zero, k in product((0, 1), range(min(factorial(n), 50) + 1)):
+            changed, (number, pushes, charge, _, *left) = do_change_zero(zero, *levels)
+            after, without = count_up(left, k)[0], count_up(levels, k)[0]
+            assert (changed, number, pushes, charge) == (1, 0, 0, 0) and after == without
+            assert (value_on(zero, read(without)) - value_on(changed, read(after)) - (0 if zero else rank([*range(1, n + 1)]))) % factorial(n) == 0
+
+
 def check_runs(lines):
     # from levels without a gap, top less bottom is at most n after every step and no push raises a cell by more than n + 1; in a round each cell is pushed (n-1)! times
     for n in range(2, 7):
@@ -442,6 +466,7 @@ check_document_001({*lines})
 check_symbols({*lines})
 check_stores({*lines})
 check_writing({*lines})
+check_changes({*lines})
 check_runs({*lines})
 check_charges({*lines})
 check_bands({*lines})

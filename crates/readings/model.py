@@ -1,6 +1,6 @@
 """A model of document 01's rules on lists, as the paper words them, with the storing rule of document 02's request 1 in place of its own, the writing of request 2,
-the charge of request 3, the bands of request 4, the listing of request 6 and the zeros of request 7; nothing of the code. `expected.py` checks it against what
-documents 01, 02 and 001 print; the sheets of `sheets` are worked and written by it too."""
+the charge of request 3, the bands of request 4, the listing of request 6, the zeros of request 7 and the change of request 8; nothing of the code. `expected.py`
+checks it against what documents 01, 02 and 001 print; the sheets of `sheets` are worked and written by it too."""
 from itertools import chain, product, repeat
 from math import factorial, perm, prod
 
@@ -337,8 +337,14 @@ def do_of_value(zero, n, value):
     return [number, *record([] if number else order_from(zero_order(n, zero), value))]
 
 
+def do_change_zero(zero, *levels):
+    """Request 8, on a group's zero and levels: it moves "to the new zero [..], without a push"; "on a group already there it is done and alters nothing". Beside what
+    the job gives on levels stands the zero."""
+    return 1, levels_left(0, 0, levels, levels, 0)
+
+
 # Writing a sheet, document 02, request 2: "the first met in the sheet's sequence" decides. A held group is n and its levels; a held command is its kind, its group
-# number, and then k, or n and a row of names, or m and s. Beside the groups stand their zeros.
+# number, and then k, or n and a row of names, or m and s, or nothing more. Beside the groups stand their zeros.
 
 class Fault(Exception):
     """Its argument is the number of the first fault met."""
@@ -362,15 +368,15 @@ def group_bytes(n, levels):
 
 
 def command_bytes(sizes, kind, g, *held):
-    """The kind byte, the group byte (0 to G - 1), then k in four bytes, n names, or m and s in eight bytes each. A rewrite whose n isn't its group's is fit, and
-    one with a name past n other than 0 is muddle, fit first."""
+    """The kind byte, the group byte (0 to G - 1), then k in four bytes, n names, or m and s in eight bytes each; request 8: "kind 4, with a group byte and nothing
+    more". A rewrite whose n isn't its group's is fit, and one with a name past n other than 0 is muddle, fit first."""
     refuse("sheet", g >= len(sizes))
     if kind == 2:
         n, names = held
         refuse("fit", n != sizes[g])
         refuse("muddle", any(names[n:]))
         return [kind, g, *names[:n]]
-    return [kind, g] + [byte for number in held for byte in spelled(number, {1: 4, 3: 8}[kind])]
+    return [kind, g] + [byte for number, length in zip(held, {1: [4], 3: [8, 8], 4: []}[kind], strict=True) for byte in spelled(number, length)]
 
 
 def zeros_bytes(zeros):
@@ -404,7 +410,7 @@ def held_group(left):
 
 
 def held_command(left):
-    """Of a rewrite the line has n, how many names it has, and these."""
+    """Of a rewrite the line has n, how many names it has, and these; of a change nothing more."""
     kind, g = next(left), next(left)
     if kind == 2:
         n, count = next(left), next(left)

@@ -2,8 +2,8 @@
 """The sheets of the program `sheets` and what it must write for them, worked out from documents 01 and 02 alone.
 
 The sheets are made below: `data/` gets their bytes, `args` their names, and `stdout` each name and the text after it; some go to `sheets/` at
-the root as examples. The text comes from a reader of bytes that follows document 01, "The bench sheet", and document 02, request 7, and from the rules in
-the model of `readings`. After the text of a sheet without fault, a line w says that it was written again from what was read: the number, the length, and 1
+the root as examples. The text comes from a reader of bytes that follows document 01, "The bench sheet", and document 02, requests 7 and 8, and from the rules
+in the model of `readings`. After the text of a sheet without fault, a line w says that it was written again from what was read: the number, the length, and 1
 where the bytes are equal. Nothing of the code is used.
 
     python3 crates/sheets/expected.py
@@ -16,7 +16,7 @@ from pathlib import Path
 
 HERE = Path(__file__).parent
 sys.path.insert(0, str(HERE.parent / "readings"))
-from model import REASONS, Fault, do_count_up, do_rewrite, do_store, order_from, rank, read, row, spelled, unrank, value_on, write_sheet
+from model import REASONS, Fault, do_change_zero, do_count_up, do_rewrite, do_store, order_from, rank, read, row, spelled, unrank, value_on, write_sheet
 
 
 # The reader: the first fault met decides.
@@ -55,12 +55,12 @@ def read_group(left):
 
 
 def read_command(left, groups):
-    """Its kind, its group number, and k, as many names as its group has cells, or m and s."""
-    kind = left.within(1, 1, 3)
+    """Its kind, its group number, and k, as many names as its group has cells, or m and s. Request 8: "kind 4, with a group byte and nothing more"."""
+    kind = left.within(1, 1, 4)
     g = left.within(1, 0, len(groups) - 1)
     if kind == 2:
         return kind, g, [left.number(1) for _ in groups[g]]
-    return kind, g, [left.number(length) for length in {1: [4], 3: [8, 8]}[kind]]
+    return kind, g, [left.number(length) for length in {1: [4], 3: [8, 8], 4: []}[kind]]
 
 
 def read_zeros(left, groups):
@@ -84,14 +84,16 @@ def read_sheet(data):
     return groups, commands, zeros
 
 
-def work(kind, held, levels):
-    """What a command does on levels. The push list of a rewrite is long enough."""
+def work(kind, held, zero, levels):
+    """The zero that a command leaves, and what it does on levels. The push list of a rewrite is long enough."""
     if kind == 1:
-        return do_count_up(*held, *levels)
+        return zero, do_count_up(*held, *levels)
     if kind == 2:
-        return do_rewrite(len(held) - 1, len(levels), *levels, len(held), *held)
-    m, symbol = held
-    return do_store(symbol, m, *levels)
+        return zero, do_rewrite(len(held) - 1, len(levels), *levels, len(held), *held)
+    if kind == 3:
+        m, symbol = held
+        return zero, do_store(symbol, m, *levels)
+    return do_change_zero(zero, *levels)
 
 
 MET = set()  # each kind of command with each number that it got
@@ -110,19 +112,22 @@ def worked(data):
         return [["s", *fault.args]]
     lines = []
     for place, (kind, g, held) in enumerate(commands, 1):
-        number, pushes, _, _, *rest = work(kind, held, groups[g])
+        zeros[g], (number, pushes, _, _, *rest) = work(kind, held, zeros[g], groups[g])
         groups[g] = rest[:len(groups[g])]
         lines.append(["c", place, number, pushes])
         MET.add((kind, number))
     return lines + [["g", g, value_on(zero, read(levels)), *levels] for g, (levels, zero) in enumerate(zip(groups, zeros))]
 
 
-def written(data):
-    """The line of a sheet without fault, which is written, from the groups and commands that were read, where there is room for any. Document 02, request 2:
-    "an accepted sheet, read and written, must have equal bytes"."""
-    groups, commands, zeros = read_sheet(data)
+def bytes_of(groups, commands, zeros):
+    """The number and the bytes of a sheet that is written where there is room for any."""
     held = [(kind, g, len(rest), row(rest)) if kind == 2 else (kind, g, *rest) for kind, g, rest in commands]
-    number, made = write_sheet(24692, len(groups), [(len(levels), levels) for levels in groups], len(commands), held, zeros)
+    return write_sheet(24692, len(groups), [(len(levels), levels) for levels in groups], len(commands), held, zeros)
+
+
+def written(data):
+    """The line of a sheet without fault, which is written from what was read. Document 02, request 2: "an accepted sheet, read and written, must have equal bytes"."""
+    number, made = bytes_of(*read_sheet(data))
     return ["w", number, len(made), int(made == data)]
 
 
@@ -143,6 +148,10 @@ def rewrite(g, *names):
 
 def store(g, m, symbol):
     return [3, g] + spelled(m, 8) + spelled(symbol, 8)
+
+
+def change(g):
+    return [4, g]
 
 
 def joined(parts):
@@ -179,6 +188,9 @@ PAPER_TEXT = "c 1 0 4\nc 2 0 1\nc 3 5 0\ng 0 5 7 6 8\n"
 # Document 02, request 7: "[1,2,3,4] is 10 on the old and 0 on the new, and [1,3,2] is 0 and 2", each order twice, the second time on the new zero
 VALUES = [4, 4, 4, 0, 3, 0, 2, 0, 1, 0, 4, 4, 0, 3, 0, 2, 0, 1, 0, 3, 3, 0, 1, 0, 2, 0, 3, 3, 0, 1, 0, 2, 0, 0, 0, 2, 1, 3]
 VALUES_TEXT = "g 0 10 4 3 2 1\ng 1 0 4 3 2 1\ng 2 0 3 1 2\ng 3 2 3 1 2\n"
+# .. request 8: the same values where two commands of kind 4 move those groups, and there is no third section
+VALUES_CHANGED = VALUES[:33] + [2, 0, 4, 1, 4, 3]
+VALUES_CHANGED_TEXT = "c 1 0 0\nc 2 0 0\n" + VALUES_TEXT
 
 TWO, THREE, FOUR = group(1, 2), group(3, 1, 2), group(4, 3, 2, 1)
 FULL = [group(*spread(20, 100 * g)) for g in range(64)]
@@ -275,19 +287,49 @@ GOOD = {
                                       count(0, 2)], [0, 1]),
     # bytes left over by names of five on a group of three: a count of 1 and group 2. The rewrite is muddle
     "names-left-over-are-a-section": sheet([THREE, FOUR, group(*spread(5))], [rewrite(0, 3, 4, 5, 1, 2)]),
+    # request 8: a change between two counts, beside a group without it, twice, on a group that the third section names; the first command, and the last; before a
+    # rewrite and a store
+    "change-between-counts": sheet([FOUR], [count(0, 3), change(0), count(0, 2)]),
+    "change-over": sheet([THREE, THREE], [count(0, 2), count(1, 2), change(1), count(0, 2), count(1, 2)]),
+    "change-twice": sheet([FOUR], [count(0, 3), change(0), count(0, 2), change(0), count(0, 1)]),
+    "change-on-the-new-zero": sheet([FOUR], [count(0, 3), change(0), count(0, 2)], [0]),
+    "change-first": sheet([THREE, FOUR], [change(1), count(0, 3), count(1, 3), rewrite(0, 3, 2, 1)]),
+    "change-last": sheet([THREE], [count(0, 4), change(0)]),
+    "change-then-rewrite-and-store": sheet([FOUR], [change(0), rewrite(0, 3, 1, 4, 2), store(0, 12, 5), count(0, 7)]),
+    # one group of several; one changed, one named, one both, one neither; every group of 64; all but the last, and most of them again
+    "change-second-of-three": sheet([FOUR, FOUR, FOUR], [count(0, 3), count(1, 3), count(2, 3), change(1), count(0, 2), count(1, 2), count(2, 2)]),
+    "changes-and-new-zeros": sheet([FOUR, FOUR, FOUR, FOUR], [count(0, 3), count(1, 3), count(2, 3), count(3, 3), change(2), change(0)], [1, 2]),
+    "change-all-of-64": sheet([group(*spread(2 + g % 19, g)) for g in range(64)], [command for g in range(64) for command in (count(g, g), change(63 - g))]),
+    "thousand-changes": sheet(FULL, [change(i % 63) for i in range(1000)]),
+    # the paper's values; [1,2,..,n] of every size as it is and changed; every size with and without a change amid the other commands
+    "both-zeros-by-changes": VALUES_CHANGED,
+    "rising-changed": sheet([group(*range(n, 0, -1)) for n in range(2, 21) for _ in range(2)], [change(g) for g in range(1, 38, 2)]),
+    "every-size-changed": sheet([group(*spread(n)) for n in range(2, 21) for _ in range(2)],
+                                [command for g in range(38) for n in [2 + g // 2]
+                                 for command in (count(g, n), rewrite(g, *shuffled(n, n)), *[change(g)] * (g % 2), store(g, factorial(n), factorial(n) - 1),
+                                                 count(g, n + 1))]),
+    # amid the commands of a sheet above; a round of four, changed after each number of steps, whose value is 0 at the end
+    "by-turns-changed": sheet([group(*spread(6)), group(*spread(5, 50)), group(*spread(20, 9))], BY_TURNS[:100] + [change(0), change(2)] + BY_TURNS[100:]),
+    "a-round-of-four-changed": sheet([FOUR] * 25, [command for g in range(25) for command in (count(g, g), change(g), count(g, 24 - g))]),
+    # it is done whatever the levels are, and whatever was refused before it
+    "change-at-the-ceiling": sheet([group(65535, 0, 1), group(0, 65535), group(*range(65516, 65536))],
+                                   [count(0, 1), change(0), count(0, 1), change(1), rewrite(1, 1, 2), store(1, 2, 0), change(2), count(2, 0)]),
+    "change-among-refused": sheet([THREE, TWO],
+                                  [rewrite(0, 1, 1, 1), change(0), store(0, 7, 0), count(0, 4), store(0, 3, 3), count(1, 65534), change(1), count(1, 65534),
+                                   count(1, 65533), change(1), count(1, 1), rewrite(0, 3, 1, 2)]),
 }
 
-EXAMPLES = ["paper", "every-size", "by-turns", "refused-then-done", "both-zeros", "thousand-counts", "longest", "tie-last", "one-byte-after"]
+EXAMPLES = ["paper", "every-size", "by-turns", "refused-then-done", "both-zeros", "change-over", "thousand-counts", "longest", "tie-last", "one-byte-after"]
 
 NO_COMMANDS = spelled(0, 2)
 ONE = spelled(1, 2)
 
 
 # A sheet with a command of each kind, by its parts: an early end is tried at every byte of it.
-PARTS = [("groups", [2]), ("first-n", [3]), ("first-levels", THREE[1:]), ("last-n", [4]), ("last-levels", FOUR[1:]), ("commands", spelled(4, 2)),
+PARTS = [("groups", [2]), ("first-n", [3]), ("first-levels", THREE[1:]), ("last-n", [4]), ("last-levels", FOUR[1:]), ("commands", spelled(5, 2)),
          ("kind-1", [1]), ("group", [0]), ("k", spelled(4, 4)), ("kind-2", [2]), ("rewrite-group", [1]), ("names", [4, 3, 2, 1]),
-         ("kind-3", [3]), ("store-group", [1]), ("m", spelled(24, 8)), ("s", spelled(7, 8)), ("last-kind", [1]), ("last-group", [1]), ("last-k", spelled(9, 4)),
-         ("new-zeros", [2]), ("new-zero", [0]), ("last-new-zero", [1])]
+         ("kind-3", [3]), ("store-group", [1]), ("m", spelled(24, 8)), ("s", spelled(7, 8)), ("kind-4", [4]), ("change-group", [1]),
+         ("last-kind", [1]), ("last-group", [1]), ("last-k", spelled(9, 4)), ("new-zeros", [2]), ("new-zero", [0]), ("last-new-zero", [1])]
 
 
 def cuts():
@@ -365,6 +407,12 @@ AFTER = {
     "one-number-after-the-longest": (OLD_LONGEST, ALL + [64]),
     "a-second-section-after-the-longest": (OLD_LONGEST, ALL + ALL),
     "much-after-the-longest": (OLD_LONGEST, ALL + [1] * 6000),
+    # after a change, which has no k and no names; a change more than the count says, where 4 may be a count of groups
+    "one-byte-after-a-change": (sheet([THREE], [change(0)]), [0]),
+    "change-with-a-k": (sheet([THREE], [change(0)]), spelled(1, 4)),
+    "change-with-names": (sheet([THREE, FOUR, TWO], [change(0)]), [3, 2, 1]),
+    "a-change-after": (sheet([THREE], [count(0, 1)]), change(0)),
+    "a-change-after-of-four": (sheet([TWO] * 4, [change(3)]), change(0)),
 }
 
 
@@ -418,12 +466,13 @@ FAULTY = {
         "commands-65535": [1] + TWO + spelled(65535, 2) + count(0, 1) * 4,
         "commands-1001-end": [1] + TWO + spelled(1001, 2),
         "commands-one-too-few": [1] + TWO + spelled(3, 2) + count(0, 1) * 2,
+        "changes-one-too-few": [1] + TWO + spelled(3, 2) + change(0) * 2,
         # kind and group number, in the first and in the last command
         "kind-0": [1] + THREE + ONE + [0, 0, 0, 0, 0, 0],
-        "kind-4": [1] + THREE + ONE + [4, 0, 0, 0, 0, 0],
+        "kind-5": [1] + THREE + ONE + [5, 0, 0, 0, 0, 0],
         "kind-255": [1] + THREE + ONE + [255, 0, 0, 0, 0, 0],
         "kind-0-last": [1] + THREE + spelled(3, 2) + count(0, 1) + rewrite(0, 3, 2, 1) + [0, 0, 0, 0, 0, 0],
-        "kind-4-after-done": [1] + THREE + spelled(2, 2) + count(0, 4) + [4, 0],
+        "kind-5-after-done": [1] + THREE + spelled(2, 2) + count(0, 4) + [5, 0],
         "kind-5-of-1000": [1] + THREE + spelled(1000, 2) + count(0, 1) * 999 + [5, 0, 0, 0, 0, 0],
         "group-1-of-1": [1] + THREE + ONE + count(1, 1),
         "group-255": [1] + THREE + ONE + count(255, 1),
@@ -431,6 +480,10 @@ FAULTY = {
         "group-2-of-2-rewrite": [2] + THREE + FOUR + ONE + rewrite(2, 1, 2, 3),
         "group-2-of-2-store-last": [2] + THREE + FOUR + spelled(2, 2) + count(1, 1) + store(2, 6, 1),
         "group-1-in-command-1000": [1] + THREE + spelled(1000, 2) + count(0, 1) * 999 + count(1, 1),
+        "group-1-of-1-change": [1] + THREE + ONE + change(1),
+        "group-2-of-2-change-last": [2] + THREE + FOUR + spelled(2, 2) + change(1) + change(2),
+        # a change without its group
+        "change-end": [1] + THREE + ONE + [4],
         # names of another group's n leave bytes over, or too few
         "names-of-four-on-three": sheet([THREE, FOUR], [rewrite(0, 4, 3, 2, 1)]),
         "names-of-three-on-four": sheet([THREE, FOUR], [rewrite(1, 3, 2, 1)]),
@@ -444,6 +497,50 @@ def printed(data):
     return "".join(" ".join(map(str, line)) + "\n" for line in text(data))
 
 
+def less_rising(value, n):
+    return (value - rank([*range(1, n + 1)])) % factorial(n)
+
+
+def parted(lines, commands):
+    """Number and pushes of the commands of kind 4, those of the others, and the lines of the groups."""
+    got = [(kind, answer) for (kind, _, _), (_, _, *answer) in zip(commands, lines)]
+    return [answer for kind, answer in got if kind == 4], [answer for kind, answer in got if kind != 4], lines[len(commands):]
+
+
+def check_changes():
+    """Document 02, request 8."""
+    assert printed(VALUES_CHANGED) == VALUES_CHANGED_TEXT
+    for made in GOOD.values():
+        groups, commands, zeros = read_sheet(made)
+        moved = {g for kind, g, _ in commands if kind == 4}
+        changes, others, left = parted(text(made), commands)
+        assert all(answer == [0, 0] for answer in changes), "its line shows 0 pushes"
+        # without the changes the other commands give the same and leave the same levels; of a group that was on the old zero "only the value differs, by the rank of
+        # [1,2,...,n] modulo n!"
+        kept = [command for command in commands if command[0] != 4]
+        number, without = bytes_of(groups, kept, zeros)
+        none, same, old = parted(text(without), kept)
+        assert number == 0 and none == [] and same == others
+        for (word, g, value, *levels), line in zip(old, left, strict=True):
+            assert line == [word, g, less_rising(value, len(levels)) if g in moved and not zeros[g] else value, *levels]
+        # and where the third section names the groups from the start, the values are the same too; so a change on a group that is there "alters nothing"
+        for rest, answers in ((kept, 0), (commands, len(changes))):
+            number, named = bytes_of(groups, rest, [int(zero or g in moved) for g, zero in enumerate(zeros)])
+            assert number == 0 and parted(text(named), rest) == ([[0, 0]] * answers, others, left)
+    # by hand: [1,2,3,4] counted by 5 has value 15 on the old zero and 5 on the new, counted by 6 it has 6 there, and counted by 3 it has 13 and 3; after a round it has 0
+    # on the new, as any [1,2,..,n] has
+    assert text(GOOD["change-between-counts"])[-1][2] == text(GOOD["change-on-the-new-zero"])[-1][2] == 5
+    assert text(GOOD["change-twice"])[-1][2] == 6
+    assert [line[2] for line in text(GOOD["change-second-of-three"])[-3:]] == [15, 5, 15]
+    assert [line[2] for line in text(GOOD["changes-and-new-zeros"])[-4:]] == [3, 3, 3, 13]
+    assert {line[2] for line in text(GOOD["a-round-of-four-changed"])[-25:]} == {0}
+    assert [line[2] for line in text(GOOD["rising-changed"])[-37::2]] == [0] * 19
+    # of all bytes as a kind, four are one: tried with as many bytes after the group's as each kind has on three cells
+    for kind in range(256):
+        lengths = [length for length in (0, 3, 4, 16) if text([1] + THREE + ONE + [kind, 0] + [0] * length)[0][0] != "s"]
+        assert lengths == {1: [4], 2: [3], 3: [16], 4: [0]}.get(kind, [])
+
+
 def check_zeros():
     """Document 02, request 7."""
     assert printed(VALUES) == VALUES_TEXT and len(LONGEST) == 24692
@@ -451,15 +548,15 @@ def check_zeros():
         groups, commands, zeros = read_sheet(made)
         new = [g for g, zero in enumerate(zeros) if zero]
         # "A sheet without it has old zeros only": the section is all that its groups' zeros add. Without it the commands and the levels are the same, and the g line
-        # has the rank; "its value is the rank less the rank of its zero order, modulo n!"
+        # of a group that no command changes has the rank; "its value is the rank less the rank of its zero order, modulo n!"
         without = made[:-1 - len(new)] if new else made
         assert made == without + ([len(new), *new] if new else []) and read_sheet(without) == (groups, commands, [0] * len(groups))
+        changed = {g for kind, g, _ in commands if kind == 4}
         for new_line, old_line in zip(text(made), text(without), strict=True):
             word, place, number, *levels = old_line
-            if word == "g":
-                n = len(levels)
+            if word == "g" and place not in changed:
                 assert number == rank(read(levels))
-                number = (number - (rank([*range(1, n + 1)]) if zeros[place] else 0)) % factorial(n)
+                number = less_rising(number, len(levels)) if zeros[place] else number
             assert new_line == [word, place, number, *levels]
     # what is after the commands and is no section is a fault: all rows of at most 4 of these bytes, of which seven are sections of three groups
     sections = [[len(new), *new] for new in ([0], [1], [2], [0, 1], [0, 2], [1, 2], [0, 1, 2])]
@@ -472,10 +569,11 @@ def check_zeros():
 def main():
     assert printed(PAPER) == PAPER_TEXT
     check_zeros()
+    check_changes()
     assert not any(text(made)[0][0] == "s" for made in [*GOOD.values(), joined(part for _, part in PARTS)])
     assert all(text(made) == [["s", number]] for number, faulty in FAULTY.items() for made in faulty.values())
     assert all(written(made) == ["w", 0, len(made), 1] for made in GOOD.values())
-    assert MET == {(1, 0), (1, 6), (2, 0), (2, 3), (2, 6), (3, 0), (3, 5), (3, 6)}, "each refusal of each command is met"
+    assert MET == {(1, 0), (1, 6), (2, 0), (2, 3), (2, 6), (3, 0), (3, 5), (3, 6), (4, 0)}, "each refusal of each command is met"
     sheets = {**GOOD, **{name: made for faulty in FAULTY.values() for name, made in faulty.items()}}
     assert len(sheets) == len(GOOD) + sum(map(len, FAULTY.values())), "each name is of one sheet"
     data = HERE / "data"

@@ -224,7 +224,8 @@ pub fn read_symbol_bands(lowest: &[u16], highest: &[u16], m: u64) -> Result<u64,
     given(answer.number, answer.symbol)
 }
 
-/// The whole text of a bench sheet, a faulty one's too, in the first bytes of `text`; gives their number. [`TEXT_BYTES`] are always enough.
+/// The whole text of a bench sheet, a faulty one's too, in the first bytes of `text`; gives their number. [`TEXT_BYTES`] are always enough. The value of a group is
+/// that on the zero on which the commands leave it.
 /// It needs 256 KiB of stack.
 /// Refused: Fit.
 pub fn bench(sheet: &[u8], text: &mut [u8]) -> Result<usize, Reason> {
@@ -235,7 +236,7 @@ pub fn bench(sheet: &[u8], text: &mut [u8]) -> Result<usize, Reason> {
 /// Writes the bench sheet of these groups and commands to the first bytes of `out`, and gives their number; the later ones keep their values. [`SHEET_BYTES`] are
 /// always enough. [`bench()`] reads the same groups and commands from it. Document 01's example has the group `Group::new(&[3, 1, 2])?` and the commands
 /// `Command::count(0, 4)`, `Command::rewrite(0, Permutation::new(&[3, 1, 2])?)` and `Command::store(0, 3, 3)`: 39 bytes. With `.on(Zero::New)` after its group
-/// it has 41.
+/// it has 41: a group is written on the zero on which it starts. `Command::change_zero(0)` moves it between two commands, and takes two bytes.
 /// It needs 256 KiB of stack.
 /// Refused, by the first that is met: Sheet, there is no group or more than 64; of each group in turn Size, then Tie; Sheet, there are more than 1,000 commands; of
 /// each command in turn Sheet, its group is not there, and of a rewrite Fit, its n is not the group's, then Muddle, a name past n is not 0; after all others Paper,

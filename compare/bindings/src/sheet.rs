@@ -2,7 +2,7 @@
 use crate::raw::{self, Permutation, Written};
 use crate::{Reason, Zero};
 
-/// A group of a sheet: the first n levels, entry by cell name, and the zero that its value is counted from. What stands past the n levels is not looked at.
+/// A group of a sheet: the first n levels, entry by cell name, and the zero on which it starts. What stands past the n levels is not looked at.
 #[derive(Clone, Copy, Debug, PartialEq, Eq)]
 pub struct Group {
     pub n: usize,
@@ -33,6 +33,8 @@ pub enum Action {
     Rewrite(Permutation),
     /// Stores a symbol of a code of m.
     Store { m: u64, symbol: u64 },
+    /// Changes to the new zero, without a push. A group already there stays as it is.
+    ChangeZero,
 }
 
 /// A command of a sheet, with the number of its group: the first has 0.
@@ -53,6 +55,10 @@ impl Command {
 
     pub fn store(group: u8, m: u64, symbol: u64) -> Command {
         Command { group, action: Action::Store { m, symbol } }
+    }
+
+    pub fn change_zero(group: u8) -> Command {
+        Command { group, action: Action::ChangeZero }
     }
 }
 
@@ -94,6 +100,7 @@ impl Rows {
                 self.kinds[row] = 3;
                 self.numbers[row] = [m, symbol];
             }
+            Action::ChangeZero => self.kinds[row] = 4,
         }
     }
 }

@@ -18,6 +18,7 @@ pub fn held(sheet: &Sheet) -> (Vec<Group>, Vec<Command>) {
         Job::CountUp { k } => Command::count(command.group, k),
         Job::Rewrite { target } => Command::rewrite(command.group, Permutation { n: target.n, cells: target.cells }),
         Job::Store { m, symbol } => Command::store(command.group, m, symbol),
+        Job::ChangeZero => Command::change_zero(command.group),
     };
     let groups = sheet.groups.iter().map(|group| Group { n: group.n, levels: group.levels, zero: zero(group.zero) });
     (groups.collect(), sheet.commands.iter().map(command).collect())
@@ -42,6 +43,7 @@ impl Rows {
             Job::CountUp { k } => (1, [k.into(), u64::MAX], [255; 20]),
             Job::Rewrite { target } => (2, [target.n as u64, u64::MAX], target.cells),
             Job::Store { m, symbol } => (3, [m, symbol], [255; 20]),
+            Job::ChangeZero => (4, [u64::MAX; 2], [255; 20]),
         };
         let rows: Vec<(u8, [u64; 2], [u8; 20])> = sheet.commands.iter().map(command).collect();
         Rows {
@@ -79,6 +81,7 @@ impl Rows {
             1 => u32::try_from(numbers[0]).ok().map(|k| Job::CountUp { k }),
             2 => Some(Job::Rewrite { target: model::Permutation { n: numbers[0] as usize, cells } }),
             3 => Some(Job::Store { m: numbers[0], symbol: numbers[1] }),
+            4 => Some(Job::ChangeZero),
             _ => None,
         };
         let none = model::Command { group: 255, job: Job::CountUp { k: 0 } };

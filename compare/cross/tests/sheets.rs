@@ -1,8 +1,9 @@
 //! Whole bench sheets, good and damaged, with text buffers of every length.
-use cross::cases::{lists, pairs};
-use cross::sheet::{count_up, example, longest, of_the_repository, random_sheet, section, sheet, small_sheets, store, EXAMPLE};
+use cross::cases::{factorial, lists, pairs, record};
+use cross::sheet::{change_zero, count_up, example, longest, of_the_repository, random_sheet, section, sheet, small_sheets, store, EXAMPLE};
 use cross::{fill, Cross, Random};
-use turretmedlar::{SHEET_BYTES, TEXT_BYTES};
+use model::{Command, Job, Zero};
+use turretmedlar::{rank, SHEET_BYTES, TEXT_BYTES};
 
 /// Works through a sheet with a buffer a little longer than its text, which is given.
 fn work(cross: &mut Cross, sheet: &[u8]) -> Vec<u8> {
@@ -38,6 +39,80 @@ fn both_zeros_on_one_sheet() {
     let text = b"g 0 10 4 3 2 1\ng 1 0 4 3 2 1\ng 2 0 3 1 2\ng 3 2 3 1 2\n";
     assert_eq!(work(&mut cross, &[sheet(&groups, &[]), section(&[1, 3])].concat()), text);
     assert_eq!(work(&mut cross, &[&EXAMPLE[..], &section(&[0])].concat()), b"c 1 0 4\nc 2 0 1\nc 3 5 0\ng 0 1 7 6 8\n");
+    cross.met(&[0]);
+}
+
+/// The same groups and example, changed by commands: "Kind 4, with a group byte and nothing more, does so, and its line shows 0 pushes."
+#[test]
+fn changes_to_the_new_zero() {
+    let mut cross = Cross::default();
+    let groups = [vec![4, 3, 2, 1], vec![3, 1, 2]];
+    let changed = [change_zero(0), change_zero(1), change_zero(0)];
+    assert_eq!(work(&mut cross, &sheet(&groups, &[])), b"g 0 10 4 3 2 1\ng 1 0 3 1 2\n");
+    assert_eq!(work(&mut cross, &sheet(&groups, &changed[..1])), b"c 1 0 0\ng 0 0 4 3 2 1\ng 1 0 3 1 2\n");
+    assert_eq!(work(&mut cross, &sheet(&groups, &changed)), b"c 1 0 0\nc 2 0 0\nc 3 0 0\ng 0 0 4 3 2 1\ng 1 2 3 1 2\n");
+    let (before, after) = EXAMPLE[10..].split_at(6);
+    let example = [&EXAMPLE[..8], &[4, 0], before, &change_zero(0), after].concat();
+    for section in [section(&[]), section(&[0])] {
+        assert_eq!(work(&mut cross, &[&example[..], &section].concat()), b"c 1 0 4\nc 2 0 0\nc 3 0 1\nc 4 5 0\ng 0 1 7 6 8\n");
+    }
+    cross.met(&[0]);
+}
+
+/// The lines of a text that have this mark: the numbers after it.
+fn rows(text: &[u8], mark: u8) -> Vec<Vec<u64>> {
+    let lines = text.split(|&byte| byte == b'\n').filter(|line| line.first() == Some(&mark)).map(|line| String::from_utf8_lossy(line));
+    lines.map(|line| line.split(' ').skip(1).map(|field| field.parse().expect("a number")).collect()).collect()
+}
+
+/// Document 02: "only the value differs, by the rank of [1,2,...,n] modulo n!". With a change of a group put before the command of this index, it is done, the others
+/// are answered as without it, and all levels are the same. The value of the group differs, where it would be left on the old zero.
+fn work_with_a_change(cross: &mut Cross, sheet: &[u8], index: usize, group: u8) {
+    let mut held = model::read_sheet(sheet).expect("a sheet without fault");
+    let change = Command { group, job: Job::ChangeZero };
+    let moved = held.groups[usize::from(group)].zero == Zero::Old && !held.commands.contains(&change);
+    held.commands.insert(index, change);
+    let mut bytes = fill(sheet.len() + 2);
+    assert_eq!(model::write_sheet(&held, &mut bytes), Ok(sheet.len() + 2));
+    let (without, with) = (work(cross, sheet), work(cross, &bytes));
+    let mut answers = rows(&without, b'c');
+    answers[index..].iter_mut().for_each(|answer| answer[0] += 1);
+    answers.insert(index, vec![index as u64 + 1, 0, 0]);
+    assert_eq!(rows(&with, b'c'), answers, "group {group} changed at {index} of {sheet:?}");
+    let mut groups = rows(&without, b'g');
+    if moved {
+        let line = &mut groups[usize::from(group)];
+        let n = line.len() - 2;
+        let rising = rank(record(&(1..=n as u8).collect::<Vec<u8>>())).expect("a permutation");
+        line[1] = (line[1] + factorial(n) - rising) % factorial(n);
+    }
+    assert_eq!(rows(&with, b'g'), groups, "group {group} changed at {index} of {sheet:?}");
+}
+
+#[test]
+fn random_sheets_with_and_without_a_change() {
+    let (mut cross, mut random) = (Cross::default(), Random::seeded(413));
+    for most in (0..900).map(|round| [2, 5, 20][round % 3]) {
+        let (groups, commands) = (1 + random.index(most), random.index(most + 3));
+        let sheet = random_sheet(&mut random, groups, commands);
+        let (index, group) = (random.index(commands + 1), random.index(groups));
+        work_with_a_change(&mut cross, &sheet, index, group as u8);
+    }
+    for sheet in small_sheets() {
+        let held = model::read_sheet(&sheet).expect("a sheet without fault");
+        pairs(held.commands.len() + 1, held.groups.len()).for_each(|(index, group)| work_with_a_change(&mut cross, &sheet, index, group as u8));
+    }
+    cross.met(&[0]);
+}
+
+/// "From the old zero, counting k after the change gives the order and levels that k without it gives": each size, to the ceiling and past it.
+#[test]
+fn counts_after_a_change() {
+    let (mut cross, mut random) = (Cross::default(), Random::seeded(414));
+    for (n, k) in (2..=20).flat_map(|n| [0, 1, 23, 435, 436, u32::MAX].map(|k| (n, k))) {
+        let sheet = sheet(&[random.group_below(n, 65_000)], &[count_up(0, 100), count_up(0, k)]);
+        (0..3).for_each(|index| work_with_a_change(&mut cross, &sheet, index, 0));
+    }
     cross.met(&[0]);
 }
 
@@ -109,7 +184,7 @@ fn a_byte_deleted_doubled_or_inserted_at_every_place() {
         for at in 0..sheet.len() {
             let (before, rest) = sheet.split_at(at);
             work(&mut cross, &[before, &rest[1..]].concat());
-            for byte in [rest[0], 0, 1, 2, 3, 255, random.number() as u8] {
+            for byte in [rest[0], 0, 1, 2, 3, 4, 5, 255, random.number() as u8] {
                 work(&mut cross, &[before, &[byte], rest].concat());
             }
         }
@@ -168,7 +243,7 @@ fn random_sheets_damaged() {
 fn garbage_of_every_length_to_200() {
     let (mut cross, mut random) = (Cross::default(), Random::seeded(406));
     for length in (0..=200).flat_map(|length| [length; 20]) {
-        let bound = random.pick(&[2, 4, 22, 256]);
+        let bound = random.pick(&[2, 5, 22, 256]);
         work(&mut cross, &random.bytes(length, bound));
     }
     cross.met(&[1, 4, 8]);
@@ -181,10 +256,12 @@ fn counts_and_group_numbers_about_their_ends() {
         let lists: Vec<Vec<u16>> = (0..groups as u16).map(|level| vec![level, 700]).collect();
         for group in [0, groups / 2, groups.saturating_sub(1), groups, groups + 1, 255] {
             work(&mut cross, &sheet(&lists, &[count_up(group, 1)]));
+            work(&mut cross, &sheet(&lists, &[change_zero(group)]));
         }
     }
     for commands in [0, 1, 255, 256, 257, 999, 1000, 1001, 1002, 1024, 65_535] {
         work(&mut cross, &sheet(&[vec![5, 6]], &vec![count_up(0, 1); commands]));
+        work(&mut cross, &sheet(&[vec![5, 6, 7]], &vec![change_zero(0); commands]));
     }
     cross.met(&[0, 8]);
 }

@@ -18,11 +18,15 @@ fn store(group: u8, m: u64, symbol: u64) -> Command {
     Command { group, job: Job::Store { m, symbol } }
 }
 
+fn change_zero(group: u8) -> Command {
+    Command { group, job: Job::ChangeZero }
+}
+
 /// Two groups, the second on the new zero, and a command of each kind on each.
 fn small() -> Sheet {
     let groups = [Group::from_levels(&[3, 1, 2]), Group { zero: Zero::New, ..Group::from_levels(&[CEILING, 258]) }];
-    let first = [rewrite(0, 3, &[3, 1, 2]), count_up(0, 0x0403_0201), store(0, 6, 5)];
-    let second = [rewrite(1, 2, &[2, 1]), count_up(1, u32::MAX), store(1, u64::MAX, u64::MAX)];
+    let first = [rewrite(0, 3, &[3, 1, 2]), count_up(0, 0x0403_0201), store(0, 6, 5), change_zero(0)];
+    let second = [rewrite(1, 2, &[2, 1]), count_up(1, u32::MAX), store(1, u64::MAX, u64::MAX), change_zero(1)];
     Sheet { groups: groups.to_vec(), commands: [first, second].concat() }
 }
 
@@ -95,6 +99,20 @@ fn that_example_on_the_new_zero() {
     cross.met(&[0, 9]);
 }
 
+/// "Writing takes kind 4 as well": its two bytes, and the text of what was written.
+#[test]
+fn a_change_between_two_counts() {
+    let (mut cross, mut out) = (Cross::default(), [9; 30]);
+    let groups = [turretmedlar::Group::new(&[3, 1, 2]).unwrap()];
+    let commands = [turretmedlar::Command::count(0, 4), turretmedlar::Command::change_zero(0), turretmedlar::Command::count(0, 1)];
+    assert_eq!(turretmedlar::write_sheet(&groups, &commands, &mut out), Ok(24));
+    let bytes = [&[1, 3, 3, 0, 1, 0, 2, 0, 3, 0][..], &[1, 0, 4, 0, 0, 0], &[4, 0], &[1, 0, 1, 0, 0, 0]].concat();
+    assert_eq!(out[..], [&bytes[..], &[9; 6]].concat());
+    cross.bench(&bytes, b"c 1 0 4\nc 2 0 0\nc 3 0 1\ng 0 1 7 6 8\n", &fill(40));
+    write_again(&mut cross, &bytes, |length| (0..length + 9).collect());
+    cross.met(&[0, 9]);
+}
+
 /// "The writer writes the section when a group is on the new zero": into each room from that of the sheet without the section.
 #[test]
 fn every_choice_of_zeros_on_six_groups() {
@@ -160,7 +178,7 @@ fn the_longest_sheet() {
     let bytes = longest(&mut random);
     write_again(&mut cross, &bytes, |_| about(SHEET_BYTES));
     let mut sheet = model::read_sheet(&bytes).unwrap();
-    for (fault, number) in [(count_up(64, 1), 8), (rewrite(63, 19, &[]), 2)] {
+    for (fault, number) in [(count_up(64, 1), 8), (rewrite(63, 19, &[]), 2), (change_zero(64), 8)] {
         sheet.commands[999] = fault;
         assert_eq!(write(&mut cross, &sheet), Err(number), "the last command is {fault:?}");
     }
@@ -214,11 +232,11 @@ fn small_groups() -> Vec<Group> {
     groups.zip([Zero::New, Zero::Old].into_iter().cycle()).map(|(group, zero)| Group { zero, ..group }).collect()
 }
 
-/// Rewrites of one to three names, with names past them too, count-ups and stores, on groups 0 to 2.
+/// Rewrites of one to three names, with names past them too, count-ups, stores and changes, on groups 0 to 2.
 fn small_commands() -> Vec<Command> {
     let names = (0..8).map(|bits: u8| [bits & 2, bits & 4, bits & 1]);
     let rewrites = names.flat_map(|names| pairs(2, 3).map(move |(group, n)| rewrite(group as u8, 1 + n, &names)));
-    let others = (0..3).flat_map(|group| [count_up(group, 0x0403_0201), store(group, 0x0807_0605_0403_0201, 7)]);
+    let others = (0..3).flat_map(|group| [count_up(group, 0x0403_0201), store(group, 0x0807_0605_0403_0201, 7), change_zero(group)]);
     rewrites.chain(others).collect()
 }
 
@@ -244,7 +262,7 @@ fn every_small_sheet() {
 type Fault = (u8, fn(&mut Rows));
 
 /// Faults of `small`, in the sequence in which they are met: a list too short before all, then a zero that is neither, then those of the sheet.
-const FAULTS: [Fault; 22] = [
+const FAULTS: [Fault; 23] = [
     (2, |rows| rows.levels.truncate(20 * rows.sizes.len() - 1)),
     (2, |rows| rows.zeros.truncate(rows.sizes.len() - 1)),
     (2, |rows| rows.groups.truncate(rows.kinds.len() - 1)),
@@ -258,15 +276,16 @@ const FAULTS: [Fault; 22] = [
     (1, |rows| rows.sizes[1] = 1),
     (4, |rows| rows.levels[21] = rows.levels[20]),
     (8, |rows| (rows.kinds.resize(1001, 1), rows.groups.resize(1001, 0), rows.numbers.resize(2002, 0), rows.names.resize(20_020, 0)).0),
-    (8, |rows| rows.kinds[0] = 4),
+    (8, |rows| rows.kinds[0] = 5),
     (8, |rows| rows.groups[0] = 2),
     (2, |rows| rows.numbers[0] = 2),
     (3, |rows| rows.names[19] = 1),
     (8, |rows| rows.numbers[2] = 1 << 32),
     (8, |rows| rows.groups[2] = 255),
-    (2, |rows| rows.numbers[6] = 1 << 32 | 2),
-    (3, |rows| rows.names[62] = 255),
-    (8, |rows| rows.kinds[5] = 0),
+    (8, |rows| rows.groups[3] = 2),
+    (2, |rows| rows.numbers[8] = 1 << 32 | 2),
+    (3, |rows| rows.names[82] = 255),
+    (8, |rows| rows.kinds[7] = 0),
 ];
 
 /// "The first met in the sheet's sequence"; paper "comes after all others". The faults are made from the last to the first.
@@ -305,8 +324,8 @@ fn lists_of_every_length() {
         let rows = Rows { sizes: resized(&rows.sizes, sizes), levels: resized(&rows.levels, 80), zeros: vec![1; zeros], ..rows.clone() };
         assert_eq!(write_rows(&mut cross, &rows) == Err(2), zeros < sizes, "{sizes} groups with {zeros} zeros");
     }
-    for ((kinds, groups), numbers) in pairs(5, 6).flat_map(|counts| (0..10).map(move |numbers| (counts, numbers))) {
-        for names in [0, 1, 19, 20, 21, 39, 40, 41, 59, 60, 61, 79, 80, 81] {
+    for ((kinds, groups), numbers) in pairs(6, 7).flat_map(|counts| (0..12).map(move |numbers| (counts, numbers))) {
+        for names in [0, 1, 19, 20, 21, 39, 40, 41, 59, 60, 61, 79, 80, 81, 99, 100, 101] {
             let mut rows = Rows { kinds: resized(&rows.kinds, kinds), groups: resized(&rows.groups, groups), ..rows.clone() };
             (rows.numbers, rows.names) = (resized(&rows.numbers, numbers), resized(&rows.names, names));
             let short = groups < kinds || numbers < 2 * kinds || names < 20 * kinds;
@@ -316,7 +335,7 @@ fn lists_of_every_length() {
     cross.met(&[0, 2, 8]);
 }
 
-/// Each entry that is not looked at, with anything there: past n, past the count, beside a count-up, a target or a store.
+/// Each entry that is not looked at, with anything there: past n, past the count, beside a count-up, a target, a store or a change.
 #[test]
 fn what_is_not_looked_at() {
     let (mut cross, mut random) = (Cross::default(), Random::seeded(505));
@@ -331,7 +350,8 @@ fn what_is_not_looked_at() {
         (0..random.index(50)).for_each(|_| rows.numbers.push(random.number()));
         (0..random.index(50)).for_each(|_| rows.names.push(random.number() as u8));
         for (row, &kind) in rows.kinds.iter().enumerate() {
-            rows.numbers[2 * row + 1] = if kind == 3 { rows.numbers[2 * row + 1] } else { random.number() };
+            let seen = [0, 1, 1, 2, 0][usize::from(kind)];
+            rows.numbers[2 * row..][seen..2].iter_mut().for_each(|number| *number = random.number());
             rows.names[20 * row..][..if kind == 2 { 0 } else { 20 }].iter_mut().for_each(|name| *name = random.number() as u8);
         }
         assert_eq!(write_rows(&mut cross, &rows), Ok(bytes), "{rows:?}");
@@ -373,7 +393,7 @@ fn counts_and_group_numbers_about_their_ends() {
     let mut cross = Cross::default();
     for groups in (0..=66_usize).chain([128, 255, 256, 257, 320, 65_537]) {
         for group in [0, groups / 2, groups.saturating_sub(1), groups, groups + 1, 255].map(|group| group.min(255) as u8) {
-            for command in [count_up(group, 1), store(group, 1, 0), rewrite(group, 2, &[9, 9])] {
+            for command in [count_up(group, 1), store(group, 1, 0), rewrite(group, 2, &[9, 9]), change_zero(group)] {
                 let zero = if groups % 2 == 0 { Zero::New } else { Zero::Old };
                 let sheet = Sheet { groups: vec![Group { zero, ..Group::from_levels(&[5, 700]) }; groups], commands: vec![command] };
                 assert_eq!(write(&mut cross, &sheet).is_ok(), (1..=64).contains(&groups) && usize::from(group) < groups);
@@ -406,7 +426,7 @@ fn sizes_and_ties_in_each_of_several_groups() {
 fn damage(random: &mut Random, sheet: &mut Sheet) {
     let (group, command) = (random.index(sheet.groups.len()), random.index(sheet.commands.len()));
     let size = random.pick(&[1, 2, 3, 20, 21, 256 + 3, usize::MAX]);
-    match (random.index(9), sheet.commands.get_mut(command)) {
+    match (random.index(10), sheet.commands.get_mut(command)) {
         (0, _) => sheet.groups[group].n = size,
         (1, _) => sheet.groups[group].levels.swap(random.index(20), random.index(20)),
         (2, _) => sheet.groups[group].levels[random.index(20)] = sheet.groups[group].levels[random.index(20)],
@@ -415,6 +435,7 @@ fn damage(random: &mut Random, sheet: &mut Sheet) {
         (5, _) if random.index(20) == 0 => sheet.commands.resize(999 + random.index(3), count_up(0, 1)),
         (6, _) => sheet.groups[group].zero = Zero::New,
         (7, Some(command)) => command.group = random.pick(&[command.group.wrapping_add(1), 63, 64, 255]),
+        (8, Some(command)) => command.job = Job::ChangeZero,
         (_, Some(Command { job: Job::Rewrite { target }, .. })) => {
             let past = random.index(20);
             target.cells[past] = random.pick(&[0, 1, 255]);
@@ -458,7 +479,7 @@ fn random_lists_damaged() {
                 0 => damage_list(&mut random, &mut rows.sizes, &[0, 1, 2, 20, 21, 258, usize::MAX]),
                 1 => damage_list(&mut random, &mut rows.levels, &[0, 1, CEILING]),
                 2 => damage_list(&mut random, &mut rows.zeros, &[0, 1, 2, 255]),
-                3 => damage_list(&mut random, &mut rows.kinds, &[0, 1, 2, 3, 4, 255]),
+                3 => damage_list(&mut random, &mut rows.kinds, &[0, 1, 2, 3, 4, 5, 255]),
                 4 => damage_list(&mut random, &mut rows.groups, &[0, 1, 2, 64, 255]),
                 5 => damage_list(&mut random, &mut rows.numbers, &[0, 2, 20, 258, u32::MAX as u64, 1 << 32, u64::MAX]),
                 _ => damage_list(&mut random, &mut rows.names, &[0, 1, 20, 255]),

@@ -1,4 +1,4 @@
-//! A model of document 01, with requests 1 to 4, 6 and 7 of document 02, in plain Rust: the other side of differential tests, and the plain side of benchmarks.
+//! A model of document 01, with requests 1 to 4 and 6 to 8 of document 02, in plain Rust: the other side of differential tests, and the plain side of benchmarks.
 //!
 //! It is written from the sentences of these documents alone, with lists, sorting and searching, and keeps no table.
 //! Every input is legal. A refused job gives its reason and leaves all lent lists as they were.

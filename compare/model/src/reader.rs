@@ -63,16 +63,17 @@ fn read_commands(bytes: &mut Bytes, groups: &[Group]) -> Result<Vec<Command>, Re
 }
 
 /// "The kind byte comes first, then the group byte (0 to G - 1). Kind 1 is count up, with k in four bytes.
-/// Kind 2 is rewrite, with n names. Kind 3 is store, with m and s in eight bytes each."
+/// Kind 2 is rewrite, with n names. Kind 3 is store, with m and s in eight bytes each." Document 02, request 8: "Kind 4, with a group byte and nothing more".
 fn read_command(bytes: &mut Bytes, groups: &[Group]) -> Result<Command, Reason> {
     let kind = bytes.number(1)?;
-    refuse_if(!(1..=3).contains(&kind), Reason::Sheet)?;
+    refuse_if(!(1..=4).contains(&kind), Reason::Sheet)?;
     let group = bytes.number(1)? as u8;
     let n = group_of(groups, group)?.n;
     let job = match kind {
         1 => Job::CountUp { k: bytes.number(4)? as u32 },
         2 => Job::Rewrite { target: Permutation::from_names(bytes.take(n)?) },
-        _ => Job::Store { m: bytes.number(8)?, symbol: bytes.number(8)? },
+        3 => Job::Store { m: bytes.number(8)?, symbol: bytes.number(8)? },
+        _ => Job::ChangeZero,
     };
     Ok(Command { group, job })
 }

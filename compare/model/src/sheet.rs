@@ -4,15 +4,16 @@ use crate::permutations::{padded, Permutation};
 use crate::reason::{refuse_if, Reason};
 use crate::zero::Zero;
 
-/// "One of three kinds"
+/// "One of three kinds"; document 02, request 8, has a fourth, to "move to the new zero".
 #[derive(Clone, Copy, Debug, PartialEq, Eq)]
 pub enum Job {
     CountUp { k: u32 },
     Rewrite { target: Permutation },
     Store { m: u64, symbol: u64 },
+    ChangeZero,
 }
 
-/// "Each command carries its group number and one of three kinds."
+/// "Each command carries its group number" and its kind.
 #[derive(Clone, Copy, Debug, PartialEq, Eq)]
 pub struct Command {
     pub group: u8,

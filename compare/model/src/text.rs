@@ -3,9 +3,9 @@
 use crate::levels::{count_up, rewrite, sorted_names, Spent};
 use crate::reader::read_sheet;
 use crate::reason::Reason;
-use crate::sheet::{Job, Sheet};
+use crate::sheet::{Group, Job, Sheet};
 use crate::symbols::store;
-use crate::zero::value_from;
+use crate::zero::{value_from, Zero};
 
 /// The whole printed text of a bench sheet. "A faulty sheet gives one line: s, number." "Only a sheet without fault starts work."
 pub fn bench(sheet: &[u8]) -> Vec<u8> {
@@ -28,11 +28,12 @@ fn line(text: &mut Vec<u8>, mark: u8, numbers: impl IntoIterator<Item = u64>) {
 }
 
 /// "Each command has: c, its place from 1, number, pushes done. Then each group has: g, group number, rank, levels by name."
-/// Document 02, request 3: "The printed lines keep their fields", so the charge is in none. Request 7: "The g line prints the value", where the rank was.
+/// Document 02, request 3: "The printed lines keep their fields", so the charge is in none. Request 7: "The g line prints the value", where the rank was,
+/// on the zero on which the commands leave the group.
 fn work(text: &mut Vec<u8>, sheet: Sheet) {
     let Sheet { mut groups, commands } = sheet;
     for (place, command) in (1..).zip(&commands) {
-        let (number, pushes) = match perform(groups[usize::from(command.group)].charge_mut(), &command.job) {
+        let (number, pushes) = match perform(&mut groups[usize::from(command.group)], &command.job) {
             Ok(spent) => (0, spent.pushes),
             Err(reason) => (reason as u64, 0),
         };
@@ -46,10 +47,18 @@ fn work(text: &mut Vec<u8>, sheet: Sheet) {
 }
 
 /// "Each command is done or sent back by itself."
-fn perform(levels: &mut [u16], job: &Job) -> Result<Spent, Reason> {
+pub(crate) fn perform(group: &mut Group, job: &Job) -> Result<Spent, Reason> {
     match *job {
-        Job::CountUp { k } => count_up(levels, k),
-        Job::Rewrite { ref target } => rewrite(levels, target, &mut [0; 20]),
-        Job::Store { m, symbol } => store(levels, m, symbol),
+        Job::CountUp { k } => count_up(group.charge_mut(), k),
+        Job::Rewrite { ref target } => rewrite(group.charge_mut(), target, &mut [0; 20]),
+        Job::Store { m, symbol } => store(group.charge_mut(), m, symbol),
+        Job::ChangeZero => Ok(change_zero(group)),
     }
+}
+
+/// Document 02, request 8: "A running module must move to the new zero between two commands, without a push." "Its line shows 0 pushes. On a group already there it
+/// is done and alters nothing."
+fn change_zero(group: &mut Group) -> Spent {
+    group.zero = Zero::New;
+    Spent { pushes: 0, charge: 0 }
 }

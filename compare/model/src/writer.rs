@@ -1,4 +1,4 @@
-//! A bench sheet, to its bytes: document 02, request 2, and request 7 for the third section.
+//! A bench sheet, to its bytes: document 02, request 2, with request 7 for the third section and request 8 for the fourth kind.
 
 use crate::levels::names_by_level;
 use crate::permutations::Permutation;
@@ -41,7 +41,7 @@ fn write_group(bytes: &mut Vec<u8>, group: &Group) -> Result<(), Reason> {
 }
 
 /// "The kind byte comes first, then the group byte (0 to G - 1). Kind 1 is count up, with k in four bytes.
-/// Kind 2 is rewrite, with n names. Kind 3 is store, with m and s in eight bytes each."
+/// Kind 2 is rewrite, with n names. Kind 3 is store, with m and s in eight bytes each." "Writing takes kind 4 as well": "a group byte and nothing more".
 fn write_command(bytes: &mut Vec<u8>, groups: &[Group], command: &Command) -> Result<(), Reason> {
     let group = group_of(groups, command.group)?;
     match command.job {
@@ -57,6 +57,7 @@ fn write_command(bytes: &mut Vec<u8>, groups: &[Group], command: &Command) -> Re
             bytes.extend([3, command.group]);
             bytes.extend([m, symbol].into_iter().flat_map(u64::to_le_bytes));
         }
+        Job::ChangeZero => bytes.extend([4, command.group]),
     }
     Ok(())
 }

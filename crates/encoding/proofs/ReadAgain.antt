@@ -16,11 +16,11 @@ use Rattle.permutation.specs.Records.{listOf, allZero}
 use Rattle.permutation.specs.declared.answers.Permutation.{Permutation}
 use Rattle.sheet.specs.Bytes.{missized, tied, ill-formed, got, after, check, many, number, bytesOf}
 use Rattle.sheet.specs.ZeroSection.{rising, namedGroups, section, zerosOf, zerosAt}
-use Rattle.sheet.specs.Sheet.{group, entry, countAt, rewriteAt, storeAt, bodyAt, command, commandRow, commands, sheet}
+use Rattle.sheet.specs.Sheet.{group, entry, countAt, rewriteAt, storeAt, changeAt, bodyAt, command, commandRow, commands, sheet}
 use Rattle.sheet.specs.Held.{noGroup, levelsOf, groupsIn}
 use Rattle.sheet.specs.Typed.{Bits, GroupTyped, ActionTyped, EntryTyped, SheetTyped}
 use Rattle.sheet.specs.declared.held.Action.{Action}
-use Rattle.sheet.specs.declared.held.Action.the-variants.{Count, Rewrite, Store}
+use Rattle.sheet.specs.declared.held.Action.the-variants.{Count, Rewrite, Store, ChangeZero}
 use Rattle.sheet.specs.declared.held.Group.{Group}
 use Rattle.sheet.specs.declared.held.Groups.{Groups}
 use Rattle.sheet.specs.declared.held.GroupZero.{GroupZero}
@@ -86,12 +86,13 @@ unfolding kindOf
 kind-small (Count k) = lit< tt
 kind-small Rewrite = lit< tt
 kind-small (Store m symbol) = lit< tt
+kind-small ChangeZero = lit< tt
 
 -- what follows the group number, on a group of n cells
 body-judges : (g n : ℕ) → n ≤ 20 → (a : Action) (t : Permutation) → ActionTyped a → length (t .cells) ≡ 20 → Bits 8 (t .cells)
     → (s pre post : List ℕ) → s ≡ pre ++ (bodyBytes a (listOf t) ++ post)
     → Verdict (bodyAt (kindOf a) g n s (length pre)) (actionNumber n a t) (entry g a (cond (targeted a) (listOf t) [])) (length (pre ++ bodyBytes a (listOf t)))
-unfolding kindOf targeted bodyBytes bodyAt countAt rewriteAt storeAt targetNumber ActionTyped after
+unfolding kindOf targeted bodyBytes bodyAt countAt rewriteAt storeAt changeAt targetNumber ActionTyped after
 body-judges g n few (Count k) t typed long fit s pre post e = verdict-got (rw (number-reads 4 s pre post k e typed))
 body-judges g n few Rewrite t typed long fit s pre post e =
     by-name (t .n) n
@@ -109,6 +110,7 @@ body-judges g n few (Store m symbol) t typed long fit s pre post e =
     let one = number-reads 8 s pre (b ++ post) m here (typed .0) in
     let two = number-reads 8 s (pre ++ a) post symbol (here ∙ simp append-assoc) (typed .1) in
     verdict-got (rw (one, two, append-assoc))
+body-judges g n few ChangeZero t typed long fit s pre post e = verdict-got (rw append-nil)
 
 module _ (gs : Groups) (room : length (gs .list) ≡ 64) (groups : Every GroupTyped (gs .list)) (t : GroupsTaken gs) where
   abbrev sizes : List ℕ

@@ -17,7 +17,7 @@ use Rattle.permutation.specs.Records.{listOf, recordOf}
 use Rattle.permutation.proofs.Records.{zeros-all}
 use Rattle.sheet.specs.Bytes.{Got, got, many, little, number, bytesOf}
 use Rattle.sheet.specs.ZeroSection.{rising, namedGroups, section}
-use Rattle.sheet.specs.Sheet.{group, entry, countAt, rewriteAt, storeAt, bodyAt, command, Contents, sheet}
+use Rattle.sheet.specs.Sheet.{group, entry, countAt, rewriteAt, storeAt, changeAt, bodyAt, command, Contents, sheet}
 use Rattle.sheet.specs.Held.{groupOf, groupsOf, noEntry, noGroup, heldOf}
 use Rattle.sheet.specs.Typed.{Bits}
 use Rattle.sheet.specs.declared.held.Action.the-variants.{Rewrite}
@@ -97,7 +97,7 @@ record BodyRead (s : List ℕ) (kind g n at : ℕ) (e : Entry) (end : ℕ) : Typ
   stands : Bits 8 s → Stands s at end (bodyBytes (e .command .action) (listOf (e .target)))
 
 body-read : (g n kind : ℕ) (s : List ℕ) (at : ℕ) (e : Entry) (end : ℕ) → bodyAt kind g n s at ≡ got e end → BodyRead s kind g n at e end
-unfolding countAt rewriteAt storeAt kindOf targeted bodyBytes targetNumber
+unfolding countAt rewriteAt storeAt changeAt kindOf targeted bodyBytes targetNumber
 body-read g n =
     by-kind (λ kind body. (s : List ℕ) (at : ℕ) (e : Entry) (end : ℕ) → body s at ≡ got e end → BodyRead s kind g n at e end) g n
     (λ s at e end r. (
@@ -132,6 +132,8 @@ body-read g n =
       stands = λ bytes.
           stands-then (number-spells s bytes 8 at (m .0) (m .1) (m .2)) (number-spells s bytes 8 (m .1) (symbol .0) (symbol .1) (symbol .2));
     })))
+    (λ s at e end r.
+    is-got (BodyRead s 4 g n at) r (record { group-is = refl; kind-is = refl; same = refl; taken = refl; stands = λ bytes. record { is = refl } }))
     (λ kind s at e end r. never r)
 
 -- a command that is held as it says, is not refused where groups have these sizes, and is spelled by what stands there

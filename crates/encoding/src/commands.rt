@@ -1,4 +1,4 @@
-// One command of the sheet. A kind is added in `put_command`, with a function for its bytes.
+// One command of the sheet. A kind is added in `put_command`, with a function for its bytes, if it has more than its head.
 ghost use mathlib.Core.Path.{_≡_};
 ghost use mathlib.Core.List.{[], flatMap};
 ghost use Prim.Native.Nat.{_+_, _≤_};
@@ -95,5 +95,6 @@ pub fn put_command(
         Action::Count(k) => done(put_count(out, at, group, k)),
         Action::Rewrite => put_rewrite(out, at, group, n, target),
         Action::Store(m, symbol) => done(put_store(out, at, group, m, symbol)),
+        Action::ChangeZero => done(put_head(out, at, 4, group)),
     }
 }

@@ -6,7 +6,7 @@ use borrow.Author.Tests.{le-leb}
 use Rattle.ranking.specs.Zeros.{numberedZero}
 use Rattle.sheet.specs.Typed.{ActionTyped}
 use Rattle.sheet.specs.declared.held.Action.{Action}
-use Rattle.sheet.specs.declared.held.Action.the-variants.{Count, Rewrite, Store}
+use Rattle.sheet.specs.declared.held.Action.the-variants.{Count, Rewrite, Store, ChangeZero}
 use Rattle.encoding.specs.CommandKinds.{kindOf, targeted}
 use Rattle.encoding.specs.Said.{said}
 use Rattle.listing.specs.LentLists.{countOf, commandOf, heldIn}
@@ -17,6 +17,7 @@ unfolding commandOf countOf kindOf firstNumber secondNumber ActionTyped
 command-is g n (Count k) typed = rw (le-leb k 4294967295 (omega (arith, typed)))
 command-is g n Rewrite typed = refl
 command-is g n (Store m s) typed = refl
+command-is g n ChangeZero typed = refl
 
 pub listing : Listing
 unfolding said heldIn numberedZero commandOf countOf targeted

@@ -6,7 +6,7 @@ use lib.ListN.{replicate}
 use Rattle.sheet.specs.Claims.{exampleContents}
 use Rattle.sheet.specs.Typed.{ActionTyped}
 use Rattle.sheet.specs.declared.held.Action.{Action}
-use Rattle.sheet.specs.declared.held.Action.the-variants.{Count, Rewrite, Store}
+use Rattle.sheet.specs.declared.held.Action.the-variants.{Count, Rewrite, Store, ChangeZero}
 use Rattle.encoding.specs.CommandKinds.{kindOf}
 use Rattle.encoding.specs.Said.{said}
 use Rattle.listing.specs.LentLists.{LentLists, lists, commandOf, heldIn}
@@ -16,11 +16,13 @@ unfoldable pub firstNumber : ℕ → Action → ℕ
 firstNumber n (Count k) = k
 firstNumber n Rewrite = n
 firstNumber n (Store m s) = m
+firstNumber n ChangeZero = 0
 
 unfoldable pub secondNumber : Action → ℕ
 secondNumber (Count k) = 0
 secondNumber Rewrite = 0
 secondNumber (Store m s) = s
+secondNumber ChangeZero = 0
 
 -- document 01's "Input bytes", as lists
 abbrev pub exampleLists : LentLists

@@ -12,7 +12,7 @@ use Rattle.ranking.specs.Zeros.{zeroNumber, numberedZero}
 use Rattle.sheet.specs.ZeroSection.{onZero, onOld}
 use Rattle.sheet.specs.Held.{noGroup, noEntry}
 use Rattle.sheet.specs.declared.held.Action.{Action}
-use Rattle.sheet.specs.declared.held.Action.the-variants.{Count, Rewrite, Store}
+use Rattle.sheet.specs.declared.held.Action.the-variants.{Count, Rewrite, Store, ChangeZero}
 use Rattle.sheet.specs.declared.held.Command.{Command}
 use Rattle.sheet.specs.declared.held.Group.{Group}
 use Rattle.sheet.specs.declared.held.GroupZero.{GroupZero}
@@ -58,13 +58,14 @@ stray = commandOn 255 (Count 0)
 unfoldable pub countOf : ℕ → ℕ → Command
 countOf g k = cond (leb k 4294967295) (commandOn g (Count k)) stray
 
--- a kind on group g with its numbers: k of a count, m and s of a store; a kind that is none of the three is sheet
+-- a kind on group g with its numbers: k of a count, m and s of a store; a kind that is none of the four is sheet
 unfoldable pub commandOf : ℕ → ℕ → ℕ → ℕ → Command
 commandOf kind g a b =
     cond (eqb kind 1) (countOf g a)
     (cond (eqb kind 2) (commandOn g Rewrite)
     (cond (eqb kind 3) (commandOn g (Store a b))
-    stray))
+    (cond (eqb kind 4) (commandOn g ChangeZero)
+    stray)))
 
 -- command i, and beside it a target of twenty names, whose n is the first number
 abbrev pub entryAt : List ℕ → List ℕ → List ℕ → List ℕ → ℕ → Entry

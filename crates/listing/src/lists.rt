@@ -100,6 +100,10 @@ fn command_of(kind: u8, group: u8, a: u64, b: u64) -> Command
             group,
             action: Action::Store(a, b),
         },
+        4 => Command {
+            group,
+            action: Action::ChangeZero,
+        },
         _ => stray(),
     }
 }

@@ -1,5 +1,5 @@
 // A held sheet from the numbers of a line. Whatever the writer may not look at is filled with sevens, so that a look would show: groups past their count (as tied
-// ones, on the new zero), commands past theirs (of a group that may not be there), levels past n, and the target beside a count or a store.
+// ones, on the new zero), commands past theirs (of a group that may not be there), levels past n, and the target beside a count, a store or a change of zero.
 use super::numbers::Numbers;
 use super::numbers::narrow8;
 use super::numbers::narrow16;
@@ -123,7 +123,7 @@ fn rewrite_from(numbers: &Numbers, at: usize, group: u8) -> EntryTaken {
     }
 }
 
-// A count or a store.
+// A count, a store or a change of zero.
 fn without_target(group: u8, action: Action) -> Entry {
     let cells = [7u8; 20];
     Entry {
@@ -149,6 +149,14 @@ fn store_from(numbers: &Numbers, at: usize, group: u8) -> EntryTaken {
     }
 }
 
+// Nothing more than its group.
+fn change_from(at: usize, group: u8) -> EntryTaken {
+    EntryTaken {
+        entry: without_target(group, Action::ChangeZero),
+        next: at,
+    }
+}
+
 // The kind, the group, and what the kind has. The zeros past the line are counts by 0.
 fn entry_from(numbers: &Numbers, at: usize) -> EntryTaken {
     let kind = number_at(numbers, at);
@@ -157,6 +165,7 @@ fn entry_from(numbers: &Numbers, at: usize) -> EntryTaken {
     match kind {
         2 => rewrite_from(numbers, first, group),
         3 => store_from(numbers, first, group),
+        4 => change_from(first, group),
         _ => count_from(numbers, first, group),
     }
 }

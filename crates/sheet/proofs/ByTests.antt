@@ -12,7 +12,7 @@ use Rattle.theory.specs.Levels as levels
 use Rattle.theory.proofs.Cases.{by-le, by-test}
 use Rattle.sheet.specs.Bytes.{Fault, missized, tied, ill-formed, fault, got, after, check, many, little}
 use Rattle.sheet.specs.ZeroSection.{rising, namedGroups, section, zerosOf, zerosAt}
-use Rattle.sheet.specs.Sheet.{group, entry, countAt, rewriteAt, storeAt, bodyAt, command, commandRow, commands, sheet}
+use Rattle.sheet.specs.Sheet.{group, entry, countAt, rewriteAt, storeAt, changeAt, bodyAt, command, commandRow, commands, sheet}
 use Rattle.sheet.specs.Parts.{numbers}
 use Rattle.sheet.specs.declared.held.Action.the-variants.{Count, Rewrite, Store}
 use Rattle.sheet.specs.declared.held.GroupZero.{GroupZero}
@@ -100,9 +100,13 @@ module _ (kind g n : ℕ) (s : List ℕ) (at : ℕ) where
   unfolding bodyAt
   body-store e = rw e
 
-  pub body-none : (kind ≡ 1 → ⊥) → (kind ≡ 2 → ⊥) → (kind ≡ 3 → ⊥) → bodyAt kind g n s at ≡ fault ill-formed
+  pub body-change : kind ≡ 4 → bodyAt kind g n s at ≡ changeAt g s at
   unfolding bodyAt
-  body-none a b d = rw (ne-eqb _ _ a, ne-eqb _ _ b, ne-eqb _ _ d)
+  body-change e = rw e
+
+  pub body-none : (kind ≡ 1 → ⊥) → (kind ≡ 2 → ⊥) → (kind ≡ 3 → ⊥) → (kind ≡ 4 → ⊥) → bodyAt kind g n s at ≡ fault ill-formed
+  unfolding bodyAt
+  body-none a b d e = rw (ne-eqb _ _ a, ne-eqb _ _ b, ne-eqb _ _ d, ne-eqb _ _ e)
 
 -- ---- a command
 

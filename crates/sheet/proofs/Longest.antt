@@ -13,7 +13,7 @@ use Rattle.theory.specs.Levels.{tied}
 use Rattle.theory.proofs.Cases.{by-le, by-name}
 use Rattle.sheet.specs.Bytes.{Fault, missized, tied as fault-tied, ill-formed, Got, fault, got, after, check, many, number}
 use Rattle.sheet.specs.ZeroSection.{rising, namedGroups, section, zerosOf, zerosAt}
-use Rattle.sheet.specs.Sheet.{group, countAt, rewriteAt, storeAt, bodyAt, command, Contents, commandRow, commands, sheet}
+use Rattle.sheet.specs.Sheet.{group, countAt, rewriteAt, storeAt, changeAt, bodyAt, command, Contents, commandRow, commands, sheet}
 use Rattle.sheet.specs.Claims.{longestSheet}
 use Rattle.sheet.specs.Parts.{Small}
 use Rattle.sheet.proofs.Inversion.{never, after-got, check-got, many-length}
@@ -124,13 +124,14 @@ local-group =
 -- ---- a command: 2 bytes and at most 20, where no group has more than twenty cells
 
 local-body : (kind g n : ℕ) → n ≤ 20 → Local (bodyAt kind g n) 20
-unfolding countAt rewriteAt storeAt
+unfolding countAt rewriteAt storeAt changeAt
 local-body kind g n h =
     by-kind (λ kind body. Local body 20) g n
     (wider {w = 4 + 0} (omega arith) (local-after (local-number 4) (λ s at k next e. local-got _)))
     (wider {w = n * 1 + 0} (omega arith) (local-after (local-many n (local-number 1)) (λ s at names next e. local-got _)))
     (wider {w = 8 + (8 + 0)} (omega arith)
     (local-after (local-number 8) (λ s at m next e. local-after (local-number 8) (λ s at m next e. local-got _))))
+    (wider (omega arith) (local-got _))
     (λ kind. wider (omega arith) (local-fault ill-formed))
     kind
 

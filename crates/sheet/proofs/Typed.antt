@@ -12,7 +12,7 @@ use denote.Array.{each}
 use denote.Struct.Field.{Field, u8-field, u16-field}
 use Rattle.theory.specs.Lists.{Every}
 use Rattle.sheet.specs.declared.held.Action.{Action}
-use Rattle.sheet.specs.declared.held.Action.the-variants.{Count, Rewrite, Store}
+use Rattle.sheet.specs.declared.held.Action.the-variants.{Count, Rewrite, Store, ChangeZero}
 use Rattle.sheet.specs.declared.held.Group.{Group}
 use Rattle.sheet.specs.declared.held.Groups.{Groups}
 use Rattle.sheet.specs.declared.held.Entry.{Entry}
@@ -45,6 +45,7 @@ unfolding ActionTyped
 action-typed (Count k) vs p = p .1 .1 .1 .1 .0 .1
 action-typed Rewrite vs p = tt
 action-typed (Store m s) vs p = let numbers = p .1 .1 .1 .1 in (numbers .0 .1, numbers .1 .0 .1)
+action-typed ChangeZero vs p = tt
 
 entry-typed : (e : Entry) (vs : List Val) → Is (entry.the-field .row) (entry.the-field .into e) vs → EntryTyped e
 entry-typed e vs p =

@@ -15,7 +15,7 @@ use Rattle.sheet.specs.declared.held.GroupZero.{GroupZero}
 use Rattle.sheet.specs.declared.held.Entry.{Entry}
 use Rattle.sheet.specs.Bytes.{got, many, number}
 use Rattle.sheet.specs.ZeroSection.{section, zerosOf, zerosAt}
-use Rattle.sheet.specs.Sheet.{group, countAt, rewriteAt, storeAt, bodyAt, command, Contents, commandRow, commands, sheet}
+use Rattle.sheet.specs.Sheet.{group, countAt, rewriteAt, storeAt, changeAt, bodyAt, command, Contents, commandRow, commands, sheet}
 use Rattle.sheet.specs.Held.{noEntry}
 use Rattle.sheet.specs.Claims.{Each, Valid}
 use Rattle.sheet.specs.Parts.{Small}
@@ -45,7 +45,7 @@ module _ (s : List ℕ) where
 -- ---- a command
 
 body-group : (g n kind : ℕ) (s : List ℕ) (at : ℕ) (e : Entry) (end : ℕ) → bodyAt kind g n s at ≡ got e end → e .command .group ≡ g
-unfolding countAt rewriteAt storeAt
+unfolding countAt rewriteAt storeAt changeAt
 body-group g n =
     by-kind (λ kind body. (s : List ℕ) (at : ℕ) (e : Entry) (end : ℕ) → body s at ≡ got e end → e .command .group ≡ g) g n
     (λ s at e end r. is-got (λ e end. e .command .group ≡ g) (after-got (number 4 s at) _ r .3) refl)
@@ -53,6 +53,7 @@ body-group g n =
     (λ s at e end r. (
     let m = after-got (number 8 s at) _ r in
     is-got (λ e end. e .command .group ≡ g) (after-got (number 8 s (m .1)) _ (m .3) .3) refl))
+    (λ s at e end r. is-got (λ e end. e .command .group ≡ g) r refl)
     (λ kind s at e end r. never r)
 
 command-named : (sizes s : List ℕ) (at : ℕ) (e : Entry) (end : ℕ) → command sizes s at ≡ got e end → e .command .group < length sizes

@@ -1,4 +1,4 @@
--- Document 01, "The bench sheet": what its bytes say, or the first fault met; with the zeros of document 02, request 7. Assumes nothing.
+-- Document 01, "The bench sheet": what its bytes say, or the first fault met; with the zeros of document 02, request 7, and the kind of request 8. Assumes nothing.
 use mathlib.Core.Bool.{not, cond, _&&_}
 use mathlib.Core.List.{List, [], map}
 use Prim.Native.Nat.{ℕ}
@@ -10,7 +10,7 @@ use Rattle.permutation.specs.Records.{recordOf}
 use Rattle.sheet.specs.Bytes.{missized, tied, ill-formed, Got, fault, got, after, check, many, number}
 use Rattle.sheet.specs.ZeroSection.{zerosAt}
 use Rattle.sheet.specs.declared.held.Action.{Action}
-use Rattle.sheet.specs.declared.held.Action.the-variants.{Count, Rewrite, Store}
+use Rattle.sheet.specs.declared.held.Action.the-variants.{Count, Rewrite, Store, ChangeZero}
 use Rattle.sheet.specs.declared.held.GroupZero.{GroupZero}
 use Rattle.sheet.specs.declared.held.Entry.{Entry}
 
@@ -23,7 +23,7 @@ group s at =
     check (not (levels.tied L)) tied
     (got L end))))
 
--- "Each command carries its group number and one of three kinds"; a rewrite's names are held beside them, and the other kinds have none
+-- "Each command carries its group number and one of three kinds", and document 02 adds a fourth; a rewrite's names are held beside them, and the other kinds have none
 abbrev pub entry : ℕ → Action → List ℕ → Entry
 entry g action names = record { command = record { group = g; action = action }; target = recordOf names }
 
@@ -39,13 +39,18 @@ rewriteAt g n s at = after (many n (number 1 s) at) (λ names end. got (entry g 
 unfoldable pub storeAt : ℕ → List ℕ → ℕ → Got Entry
 storeAt g s at = after (number 8 s at) (λ m next. after (number 8 s next) (λ symbol end. got (entry g (Store m symbol) []) end))
 
+-- document 02: "Kind 4, with a group byte and nothing more"
+unfoldable pub changeAt : ℕ → List ℕ → ℕ → Got Entry
+changeAt g s at = got (entry g ChangeZero []) at
+
 -- what follows the kind and the group number of a group of n cells; a kind "outside its range" is ill-formed
 unfoldable pub bodyAt : ℕ → ℕ → ℕ → List ℕ → ℕ → Got Entry
 bodyAt kind g n s at =
     cond (eqb kind 1) (countAt g s at)
     (cond (eqb kind 2) (rewriteAt g n s at)
     (cond (eqb kind 3) (storeAt g s at)
-    (fault ill-formed)))
+    (cond (eqb kind 4) (changeAt g s at)
+    (fault ill-formed))))
 
 -- "the kind byte comes first, then the group byte (0 to G - 1)". `sizes` has the n of each group, and so G is its length. All faults from here on have one
 -- number, so that the kind may be judged after the group number
@@ -56,7 +61,7 @@ command sizes s at =
     check (ltb g (length sizes)) ill-formed
     (bodyAt kind g (getD sizes g 0) s body)))
 
--- what a sheet without fault says; the zeros are those of the groups, by group number
+-- what a sheet without fault says; the zeros are those on which the groups start, by group number
 pub record Contents : Type 0 where
   pub groups : List (List ℕ)
   pub zeros : List GroupZero

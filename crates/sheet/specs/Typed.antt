@@ -6,7 +6,7 @@ use Prim.Native.Nat.{ℕ, _^_, _<_}
 use lib.ListN.{length}
 use Rattle.theory.specs.Lists.{Every}
 use Rattle.sheet.specs.declared.held.Action.{Action}
-use Rattle.sheet.specs.declared.held.Action.the-variants.{Count, Rewrite, Store}
+use Rattle.sheet.specs.declared.held.Action.the-variants.{Count, Rewrite, Store, ChangeZero}
 use Rattle.sheet.specs.declared.held.Group.{Group}
 use Rattle.sheet.specs.declared.held.Entry.{Entry}
 use Rattle.sheet.specs.declared.held.Sheet.{Sheet}
@@ -23,6 +23,7 @@ unfoldable pub ActionTyped : Action → Type 0
 ActionTyped (Count k) = k < 2 ^ 32
 ActionTyped Rewrite = Unit {0}
 ActionTyped (Store m s) = (m < 2 ^ 64) × (s < 2 ^ 64)
+ActionTyped ChangeZero = Unit {0}
 
 pub record EntryTyped (e : Entry) : Type 0 where
   pub group : e .command .group < 2 ^ 8

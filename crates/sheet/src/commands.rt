@@ -1,4 +1,4 @@
-// One command of the sheet. A kind is added in `read_command`, with a function for what follows its group number.
+// One command of the sheet. A kind is added in `read_command`, with a function for what follows its group number, if anything does.
 ghost use mathlib.Core.Path.{_≡_};
 ghost use mathlib.Core.List.{[]};
 ghost use Prim.Native.Nat.{_+_, _≤_};
@@ -133,6 +133,7 @@ pub fn read_command(s: &[u8], at: usize, sizes: &[usize]) -> EntryRead
         1 => count_at(s, body, group),
         2 => rewrite_at(s, body, group, n),
         3 => store_at(s, body, group),
+        4 => untargeted(group, Action::ChangeZero, body),
         _ => refuse(),
     }
 }

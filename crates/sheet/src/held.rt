@@ -28,6 +28,8 @@ pub enum Action {
     Count(u32),
     Rewrite,
     Store(u64, u64),
+    // to the new zero
+    ChangeZero,
 }
 
 pub struct Command {
@@ -41,7 +43,7 @@ pub struct Entry {
     pub target: Permutation,
 }
 
-// The zeros are those of the groups, by group number.
+// The zeros are those on which the groups start, by group number.
 pub struct Sheet {
     pub groups: Groups,
     pub zeros: [GroupZero; 64],

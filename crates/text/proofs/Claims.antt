@@ -1,4 +1,4 @@
--- What holds of every text; document 01's sheet has its output on either zero, by computing. Assumes nothing.
+-- What holds of every text; document 01's sheet has its output on either zero and with a change, by computing. Assumes nothing.
 use mathlib.Core.Path.{refl, ap}
 use mathlib.Core.List.{zipWith}
 use Rattle.theory.specs.CountUp.{callNumber, callPushes, callLevels, countUp, nextCell}
@@ -17,17 +17,17 @@ use Rattle.rewriting.specs.Answers.{targetNumber, rewriteNumber, rewriteAnswer,
 use Rattle.symbols.specs.Answers.{leadAnswer, leadLevels, leadNumber, codeNumber}
 use Rattle.sheet.specs.Bytes.{after, check, many, little, number}
 use Rattle.sheet.specs.ZeroSection.{rising, namedGroups, section, zerosOf, zerosAt}
-use Rattle.sheet.specs.Sheet.{group, countAt, rewriteAt, storeAt, bodyAt, command, commandRow, commands, sheet}
+use Rattle.sheet.specs.Sheet.{group, countAt, rewriteAt, storeAt, changeAt, bodyAt, command, commandRow, commands, sheet}
 use Rattle.sheet.proofs.Claims.{sheets}
 use Rattle.layout.specs.Text.{textOf, line, places, decimal, commandLine, commandLines, groupLine, groupLines}
 use Rattle.text.specs.Claims.{Texts}
-use Rattle.work.specs.Work.{answers, groupsAfterAll}
+use Rattle.work.specs.Work.{answers, groupsAfterAll, zerosAfterAll}
 
 pub texts : Texts
 unfolding
-    textOf line places decimal commandLine commandLines groupLine groupLines answers groupsAfterAll
+    textOf line places decimal commandLine commandLines groupLine groupLines answers groupsAfterAll zerosAfterAll
     callAnswer callNumber callPushes callLevels countUp nextCell pushLevel insertByLevel sortByLevel permutationOf successor smaller placeOf
     rewriteAnswer rewriteLevels rewriteNumber targetNumber rewriteCount rewritePushes readNumber recordNumber onceEach allZero push
     leadAnswer leadLevels leadNumber codeNumber digit remaining rank delta zipWith valueFrom placeOfDigit insertAt unrank
-    sheet after number check little many group commands commandRow zerosAt section namedGroups rising zerosOf command bodyAt countAt rewriteAt storeAt
-texts = record { example = ap textOf (sheets .example); example-zeros = refl; decided = λ s. ap textOf (sheets .decided s) }
+    sheet after number check little many group commands commandRow zerosAt section namedGroups rising zerosOf command bodyAt countAt rewriteAt storeAt changeAt
+texts = record { example = ap textOf (sheets .example); example-zeros = refl; example-change = refl; example-changed = refl; decided = λ s. ap textOf (sheets .decided s) }

@@ -96,6 +96,9 @@ old-value n xs =
     let e : rank n xs ≡ rank n xs + rank n (oldZero n) = omega (arith, old-rank n) in
     value-rank n (oldZero n) (rank n xs) xs (rank-lt n xs) (sym (mod-eq-of-lt (rank-lt n xs)) ∙ ap (λ (r : ℕ). r % factorial n) e)
 
+pub zero-changed : (n : ℕ) (xs : List ℕ) → valueFrom n (oldZero n) xs ≡ (valueFrom n (newZero n) xs + rank n (newZero n)) % factorial n
+zero-changed n xs = old-value n xs ∙ sym (rank-value n (newZero n) xs)
+
 pub zeros : (n : ℕ) → 2 ≤ n → Zeros n
 zeros n low = record {
   old-permutation = unrank-permutation n 0;
@@ -104,4 +107,5 @@ zeros n low = record {
   new = valuing n (newZero n) low;
   old-rank = old-rank n;
   old-value = old-value n;
+  changed = zero-changed n;
 }

@@ -95,6 +95,8 @@ pub record Zeros (n : ℕ) : Type 0 where
   pub old-rank : rank n (oldZero n) ≡ 0
   -- so on the old zero the value is the rank, as it was before there was a new one
   pub old-value : (xs : List ℕ) → valueFrom n (oldZero n) xs ≡ rank n xs
+  -- request 8, of a group that changes from the old zero to the new and keeps its permutation: "only the value differs, by the rank of [1,2,...,n] modulo n!"
+  pub changed : (xs : List ℕ) → valueFrom n (oldZero n) xs ≡ (valueFrom n (newZero n) xs + rank n (newZero n)) % factorial n
 
 -- the permutation of levels without a tie
 pub record Reading (L : List ℕ) : Type 0 where

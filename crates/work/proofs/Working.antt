@@ -1,17 +1,18 @@
--- Working through a sheet in memory: groups in their row, and what the commands so far answered and left. Assumes nothing.
+-- Working through a sheet in memory: groups and zeros in their rows, and what the commands so far answered and left. Assumes nothing.
 use mathlib.Core.Path.{_≡_, refl, sym, ap, _∙_}
 use mathlib.Core.List.{List, [], _++_, map, zipWith}
 use Prim.Native.Nat.{ℕ, _+_, _-_, _≤_, _<_}
+use native.Mathlib.Numerals.{add-one}
 use native.Mathlib.Omega.{arith}
-use lib.ListN.{length, getD, take, drop, set, replicate, length-set, length-replicate, length-map}
-use lib.Seq.{drop-append-seam, getD-take, set-append-left, getD-set-same, getD-set-other}
+use lib.ListN.{length, getD, take, drop, set, replicate, length-set, length-replicate, length-map, List·getD-append}
+use lib.Seq.{drop-append-seam, take-all, take-at, getD-take, set-append-left, getD-set-same, getD-set-other}
 use Rattle.theory.specs.Lists.{padded}
 use Rattle.theory.specs.InTurn.{leftBy}
 use Rattle.theory.proofs.Cases.{by-name}
 use Rattle.theory.proofs.Padding.{getD-any, map-set}
 use Rattle.theory.proofs.FilledRow.{row-all}
 use Rattle.theory.proofs.InTurn as turns
-use Rattle.theory.proofs.InTurn.{left-keeps, InTurn, turn-none, turn-more, turn-left}
+use Rattle.theory.proofs.InTurn.{left-keeps, left-next, InTurn, turn-none, turn-more, turn-left}
 use Rattle.permutation.specs.declared.answers.Permutation.{Permutation}
 use Rattle.theory.specs.Levels.{readNumber}
 use Rattle.charge.specs.declared.answers.Pushes.{Pushes}
@@ -25,9 +26,10 @@ use Rattle.sheet.proofs.InMemory.{group-levels, groups-back, groups-at, groups-
 use Rattle.sheet.specs.declared.held.Action.{Action}
 use Rattle.sheet.specs.declared.held.Group.{Group}
 use Rattle.sheet.specs.declared.held.Groups.{Groups}
+use Rattle.sheet.specs.declared.held.GroupZero.{GroupZero}
 use Rattle.sheet.specs.declared.held.Entry.{Entry}
 use Rattle.sheet.specs.declared.held.Sheet.{Sheet}
-use Rattle.work.specs.Work.{jobLevels, levelsFor, answerTo, groupsAfter, answers, groupsAfterAll, valueOf, groupsLeft, valuesLeft}
+use Rattle.work.specs.Work.{jobLevels, jobZero, levelsFor, answerTo, groupsAfter, answers, groupsAfterAll, zerosAfter, zerosAfterAll, valueOf, groupsLeft, zerosLeft, valuesLeft}
 use Rattle.work.specs.Answers.{noAnswer, outcomeOf}
 use Rattle.work.specs.Acting.{acted}
 use Rattle.work.specs.declared.acting.Acted.{Acted}
@@ -86,7 +88,7 @@ pub answers-length : (Ls : List (List ℕ)) (es : List Entry) → length (answer
 unfolding answers
 answers-length Ls es = turns.answers-length _ _ es Ls
 
-groupsAfterAll-length : (Ls : List (List ℕ)) (es : List Entry) → length (groupsAfterAll Ls es) ≡ length Ls
+pub groupsAfterAll-length : (Ls : List (List ℕ)) (es : List Entry) → length (groupsAfterAll Ls es) ≡ length Ls
 unfolding groupsAfterAll
 groupsAfterAll-length Ls es =
     left-keeps groupsAfter (λ (Ms : List (List ℕ)). length Ms ≡ length Ls) (λ e Ms same. length-set Ms (e .command .group) _ ∙ same) es Ls refl
@@ -100,9 +102,17 @@ pub groupsAfterAll-held : (c : Contents) (es : List Entry) → Valid c → Group
 groupsAfterAll-held c es v =
     groups-held (groupsAfterAll (c .groups) es) (omega (arith, v .few, groupsAfterAll-length (c .groups) es)) (groupsAfterAll-each (c .groups) es (v .readable))
 
--- and each has a value, on its zero
+pub zerosAfterAll-length : (zs : List GroupZero) (es : List Entry) → length (zerosAfterAll zs es) ≡ length zs
+unfolding zerosAfterAll
+zerosAfterAll-length zs es =
+    left-keeps zerosAfter (λ (ys : List GroupZero). length ys ≡ length zs) (λ e ys same. length-set ys (e .command .group) _ ∙ same) es zs refl
+
+-- and each has a zero beside it, and so a value
+pub zeros-length : (c : Contents) → Valid c → length (zerosLeft c) ≡ length (groupsLeft c)
+zeros-length c v = zerosAfterAll-length (c .zeros) (c .entries) ∙ v .zeros ∙ sym (groupsAfterAll-length (c .groups) (c .entries))
+
 pub values-length : (c : Contents) → Valid c → length (valuesLeft c) ≡ length (groupsLeft c)
-values-length c v = zipped-length valueOf (c .zeros) (groupsLeft c) (v .zeros ∙ sym (groupsAfterAll-length (c .groups) (c .entries)))
+values-length c v = zipped-length valueOf (zerosLeft c) (groupsLeft c) (zeros-length c v)
 
 -- ---- the loop over the commands of a sheet
 
@@ -110,6 +120,10 @@ values-length c v = zipped-length valueOf (c .zeros) (groupsLeft c) (v .zeros �
 abbrev pub Progress : Sheet → List Pushes → Groups → ℕ → Type 0
 Progress sheet said groups i =
     InTurn answerTo groupsAfter groupsOf (contentsOf sheet .entries) (contentsOf sheet .groups) (replicate 1000 noAnswer) groups said i
+
+-- the zeros go beside it
+abbrev pub ZerosSoFar : Sheet → List GroupZero → ℕ → Type 0
+ZerosSoFar sheet zeros i = zeros ≡ padded 64 onOld (zerosAfterAll (contentsOf sheet .zeros) (take i (contentsOf sheet .entries)))
 
 module _ {sheet : Sheet} (h : SheetHeld sheet) where
   sheet-count : sheet .count ≡ length (contentsOf sheet .entries)
@@ -119,13 +133,9 @@ module _ {sheet : Sheet} (h : SheetHeld sheet) where
   pub count-few : sheet .count ≤ 1000
   count-few = omega (arith, sheet-count, h .valid .short)
 
-  zeros-are : sheet .zeros ≡ padded 64 onOld (contentsOf sheet .zeros)
-  unfolding heldOf
-  zeros-are = ap (λ (s : Sheet). s .zeros) (h .held)
-
-  groups-count : sheet .groups .count ≡ length (contentsOf sheet .groups)
-  unfolding heldOf
-  groups-count = ap (λ (s : Sheet). s .groups .count) (h .held)
+  pub zeros-start : ZerosSoFar sheet (sheet .zeros) 0
+  unfolding heldOf zerosAfterAll
+  zeros-start = ap (λ (s : Sheet). s .zeros) (h .held)
 
   pub start : Progress sheet (replicate 1000 noAnswer) (sheet .groups) 0
   unfolding heldOf
@@ -173,15 +183,37 @@ module _ {sheet : Sheet} (h : SheetHeld sheet) where
             let did : r ≡ acted (next .command .action) (next .target) (levelsFor Ls next) = e ∙ rw levels in
             turn-more v d there (rw (next-is, did)) (rw (next-is, did, v .left, ← is) (groups-set Ls g inside _))
 
-    pub end : {values : List ℕ} → sheet .count ≤ i → values ≡ padded 64 0 (zipWith valueOf (take (groups .count) (sheet .zeros)) (groupsIn groups))
-        → _≡_ {A = Outcome} (record { count = sheet .count; answers = said; groups = groups; zeros = sheet .zeros; values = values }) (outcomeOf (contentsOf sheet))
+        pub zeros-step : {zeros : List GroupZero} → ZerosSoFar sheet zeros i → (z : GroupZero) {r : GroupZero} → r ≡ jobZero (next .command .action) (getD zeros g z)
+            → ZerosSoFar sheet (set zeros g r) (i + 1)
+        unfolding zerosAfterAll
+        zeros-step {zeros} so z {r} e =
+            let zs : List GroupZero = zerosAfterAll (contentsOf sheet .zeros) (take i (contentsOf sheet .entries)) in
+            let inside : g < length zs =
+            omega (arith, index-below .0, left-count, h .valid .zeros, zerosAfterAll-length (contentsOf sheet .zeros) (take i (contentsOf sheet .entries))) in
+            let at : getD zeros g z ≡ getD zs (next .command .group) onOld =
+            ap (λ (l : List GroupZero). getD l g z) so
+            ∙ List·getD-append zs _ z g inside
+            ∙ getD-any zs g z onOld inside
+            ∙ ap (λ (k : ℕ). getD zs k onOld) is in
+            let after : set zs g r ≡ zerosAfterAll (contentsOf sheet .zeros) (take (i + 1) (contentsOf sheet .entries)) =
+            rw (e, at, is) (sym (rw (add-one i, ← next-is) (left-next zerosAfter (contentsOf sheet .entries) (contentsOf sheet .zeros) i d there))) in
+            ap (λ (l : List GroupZero). set l g r) so
+            ∙ set-append-left zs _ g r inside
+            ∙ rw (← length-set zs g r) (ap (padded 64 onOld) after)
+
+    pub end : {zeros : List GroupZero} {values : List ℕ} → sheet .count ≤ i → ZerosSoFar sheet zeros i
+        → values ≡ padded 64 0 (zipWith valueOf (take (groups .count) zeros) (groupsIn groups))
+        → _≡_ {A = Outcome} (record { count = sheet .count; answers = said; groups = groups; zeros = zeros; values = values }) (outcomeOf (contentsOf sheet))
     unfolding outcomeOf answers groupsAfterAll
-    end {values} all e =
+    end {zeros} {values} all so e =
         let es : List Entry = contentsOf sheet .entries in
         let Ls : List (List ℕ) = groupsAfterAll (contentsOf sheet .groups) es in
         let done : length es ≤ i = omega (arith, sheet-count) in
         let answers-are = row-all 1000 noAnswer (v .answered) done in
         let groups-are : groups ≡ groupsOf Ls = turn-left v done in
-        let first : take (groups .count) (sheet .zeros) ≡ contentsOf sheet .zeros = ap (λ (n : ℕ). take n (sheet .zeros)) (left-count ∙ sym groups-count) in
-        let values-are : values ≡ padded 64 0 (zipWith valueOf (contentsOf sheet .zeros) Ls) = e ∙ rw (first, groups-are, groups-back Ls) in
+        let zs : List GroupZero = zerosLeft (contentsOf sheet) in
+        let zeros-are : zeros ≡ padded 64 onOld zs = so ∙ rw (take-all i es done) in
+        let long : length zs ≡ groups .count = zerosAfterAll-length (contentsOf sheet .zeros) es ∙ h .valid .zeros ∙ sym left-count in
+        let first : take (groups .count) zeros ≡ zs = ap (take (groups .count)) zeros-are ∙ take-at zs _ (groups .count) long in
+        let values-are : values ≡ padded 64 0 (zipWith valueOf zs Ls) = e ∙ rw (first, groups-are, groups-back Ls) in
         λ k. record { count = sheet-count k; answers = answers-are k; groups = groups-are k; zeros = zeros-are k; values = values-are k }

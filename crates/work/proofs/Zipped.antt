@@ -19,7 +19,7 @@ module _ {A B C : Type 0} (f : A → B → C) where
   zipped-length (x ∷ xs) [] e = refl
   zipped-length (x ∷ xs) (y ∷ ys) e = ap suc (zipped-length xs ys (omega arith))
 
-  zipped-at : (xs : List A) (ys : List B) (i : ℕ) → i < length xs → i < length ys → (a : A) (b : B) (c : C)
+  pub zipped-at : (xs : List A) (ys : List B) (i : ℕ) → i < length xs → i < length ys → (a : A) (b : B) (c : C)
       → getD (zipWith f xs ys) i c ≡ f (getD xs i a) (getD ys i b)
   unfolding zipWith
   zipped-at [] ys i h k a b c = absurd (omega arith)

@@ -7,7 +7,7 @@ use Rattle.sheet.specs.ZeroSection.{onOld}
 use Rattle.sheet.specs.Sheet.{Contents}
 use Rattle.theory.specs.Lists.{padded}
 use Rattle.sheet.specs.Held.{groupsOf, noContents}
-use Rattle.work.specs.Work.{answersOf, groupsLeft, valuesLeft}
+use Rattle.work.specs.Work.{answersOf, groupsLeft, zerosLeft, valuesLeft}
 use Rattle.work.specs.declared.answers.Outcome.{Outcome}
 use Rattle.work.specs.declared.answers.Worked.{Worked}
 
@@ -21,7 +21,7 @@ outcomeOf c = record {
   count = length (c .entries);
   answers = padded 1000 noAnswer (answersOf c);
   groups = groupsOf (groupsLeft c);
-  zeros = padded 64 onOld (c .zeros);
+  zeros = padded 64 onOld (zerosLeft c);
   values = padded 64 0 (valuesLeft c);
 }
 

@@ -10,12 +10,14 @@ ghost use Rattle.work.specs.Answers.{noAnswer, outcomeOf};
 ghost use Rattle.work.specs.Acting.{acted};
 use super::answers::Outcome;
 use charge::answers::Pushes;
+use charge::answers::done_pushes;
 use charge::answers::no_pushes;
 use charge::count_up::count_up;
 use charge::read::read;
 use permutation::answers::Permutation;
 use permutation::cell::wide;
 use ranking::value::value;
+use ranking::zero::Zero;
 use rewriting::rewrite::rewrite;
 use sheet::held::Action;
 use sheet::held::Group;
@@ -32,6 +34,7 @@ struct Acted {
     group: Group,
 }
 
+// The levels and the answer; of the zero tells `zero_left`.
 fn act(levels: &mut [u16], action: Action, target: Permutation) -> Pushes
     ensures answer { λ r. ⌜ r ≡ meaning.jobAnswer action target (now (levels .entry)) ⌝ }
     ensures levels_left { λ _. ⌜ now (levels .exit) ≡ meaning.jobLevels action target (now (levels .entry)) ⌝ }
@@ -43,6 +46,7 @@ fn act(levels: &mut [u16], action: Action, target: Permutation) -> Pushes
             rewrite(levels, target, &mut list)
         }
         Action::Store(m, symbol) => store(levels, m, symbol),
+        Action::ChangeZero => done_pushes(0, 0),
     }
 }
 
@@ -56,6 +60,15 @@ fn act_group(group: Group, action: Action, target: Permutation) -> Acted
     Acted {
         answer,
         group: Group { n, levels },
+    }
+}
+
+fn zero_left(action: Action, on: GroupZero) -> GroupZero
+    ensures { λ r. ⌜ r ≡ meaning.jobZero action on ⌝ }
+{
+    match action {
+        Action::ChangeZero => GroupZero { zero: Zero::New },
+        _ => on,
     }
 }
 
@@ -101,6 +114,7 @@ pub fn work(sheet: Sheet) -> Outcome
     let count = sheet.count;
     let mut answers = no_answers();
     let mut groups = sheet.groups;
+    let mut zeros = sheet.zeros;
     let mut i: usize = 0;
     while i < count {
         let entry = sheet.entries[i];
@@ -114,9 +128,10 @@ pub fn work(sheet: Sheet) -> Outcome
         let left = acted.group;
         answers[i] = answer;
         groups.list[g] = left;
+        let on = zeros[g];
+        zeros[g] = zero_left(action, on);
         i += 1;
     }
-    let zeros = sheet.zeros;
     let values = values_of(groups, zeros);
     Outcome {
         count,

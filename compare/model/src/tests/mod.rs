@@ -1,6 +1,7 @@
 //! The model, held to the definitions and claims of documents 01 and 02.
 
 mod bands;
+mod changes;
 mod charge;
 mod definitions;
 mod reach;

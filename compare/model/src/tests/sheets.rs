@@ -1,4 +1,4 @@
-//! Bench sheets: the example, its faults, and the longest sheet. `zeros` has those with a third section.
+//! Bench sheets: the example, its faults, and the longest sheet. `zeros` has those with a third section, `changes` those that change a zero.
 
 use crate::bench;
 
@@ -20,7 +20,7 @@ fn example() {
 /// The first fault met decides.
 #[test]
 fn faults() {
-    let table: [(&[u8], u8); 17] = [
+    let table: [(&[u8], u8); 21] = [
         (&[0], 8),
         (&[65, 1], 8),
         (&[1, 0], 1),
@@ -34,7 +34,11 @@ fn faults() {
         (&[2, 2, 7, 0, 7, 1, 2, 5, 5, 5, 5, 0, 0], 4),
         (&[1, 2, 7, 0, 7, 1, 233, 3], 8),
         (&[1, 2, 7, 0, 7, 1, 1, 0, 0, 0, 0, 0, 0, 0], 8),
-        (&[1, 2, 7, 0, 7, 1, 1, 0, 4, 0, 0, 0, 0, 0], 8),
+        (&[1, 2, 7, 0, 7, 1, 1, 0, 5, 0, 0, 0, 0, 0], 8),
+        (&[1, 2, 7, 0, 7, 1, 1, 0, 4], 8),
+        (&[1, 2, 7, 0, 7, 1, 1, 0, 4, 1], 8),
+        (&[1, 2, 7, 0, 7, 1, 1, 0, 4, 0, 0], 8),
+        (&[1, 2, 7, 0, 7, 1, 2, 0, 4, 0], 8),
         (&[1, 2, 7, 0, 7, 1, 1, 0, 1, 1, 0, 0, 0, 0], 8),
         (&[1, 2, 7, 0, 7, 1, 1, 0, 1, 255, 0, 0, 0, 0], 8),
         (&[1, 2, 7, 0, 7, 1, 0, 0, 0], 8),
@@ -43,6 +47,7 @@ fn faults() {
         assert_eq!(text(sheet), format!("s {number}\n"), "{sheet:?}");
     }
     assert_eq!(text(&[1, 2, 7, 0, 7, 1, 0, 0]), "g 0 1 7 263\n");
+    assert_eq!(text(&[1, 2, 7, 0, 7, 1, 1, 0, 4, 0]), "c 1 0 0\ng 0 1 7 263\n");
 }
 
 /// Each command is done or refused by itself: muddle, ceiling twice and value on group 1, then one that is done on group 0.
@@ -97,16 +102,25 @@ fn longest() {
     assert!(groups.all(|(group, line)| line.starts_with(&format!("g {group} "))));
 }
 
-/// Sheets whose only fault is a count or a kind outside its range.
+/// Sheets whose only fault is a count outside its range.
 #[test]
 fn out_of_range() {
     for (groups, commands) in [(0, 0), (65, 0), (64, 1001)] {
         assert_eq!(text(&whole_sheet(groups, commands)), "s 8\n", "{groups} {commands}");
     }
-    for kind in [0, 4, 255] {
-        for width in 0..=20 {
-            let command = [&[1, 2, 7, 0, 7, 1, 1, 0, kind, 0][..], &vec![0; width]].concat();
-            assert_eq!(text(&command), "s 8\n", "{kind} {width}");
-        }
+}
+
+/// Every kind, with zeros after the group byte: as many as it has, here of two cells, or it is a fault. Kinds 0, and 5 and above, are no kinds.
+#[test]
+fn kinds() {
+    for (kind, width) in (0..=255).flat_map(|kind| (0..=20).map(move |width| (kind, width))) {
+        let expected = match (kind, width) {
+            (1, 4) | (4, 0) => "c 1 0 0\ng 0 1 7 263\n",
+            (2, 2) => "c 1 3 0\ng 0 1 7 263\n",
+            (3, 16) => "c 1 5 0\ng 0 1 7 263\n",
+            _ => "s 8\n",
+        };
+        let command = [&[1, 2, 7, 0, 7, 1, 1, 0, kind, 0][..], &vec![0; width]].concat();
+        assert_eq!(text(&command), expected, "{kind} {width}");
     }
 }

@@ -5,16 +5,20 @@ use super::sheets::{longest_sheet, EXAMPLE};
 use crate::Reason::{self, Fit, Muddle, Paper, Size, Tie};
 use crate::{read_sheet, write_sheet, Command, Group, Job, Permutation, Sheet, Zero};
 
-fn count_up(group: u8, k: u32) -> Command {
+pub(super) fn count_up(group: u8, k: u32) -> Command {
     Command { group, job: Job::CountUp { k } }
 }
 
-fn rewrite(group: u8, target: Permutation) -> Command {
+pub(super) fn rewrite(group: u8, target: Permutation) -> Command {
     Command { group, job: Job::Rewrite { target } }
 }
 
-fn store(group: u8, m: u64, symbol: u64) -> Command {
+pub(super) fn store(group: u8, m: u64, symbol: u64) -> Command {
     Command { group, job: Job::Store { m, symbol } }
+}
+
+pub(super) fn change_zero(group: u8) -> Command {
+    Command { group, job: Job::ChangeZero }
 }
 
 pub(super) fn sheet(groups: &[&[u16]], commands: &[Command]) -> Sheet {
@@ -55,9 +59,9 @@ fn target(command: &mut Command) -> &mut Permutation {
     }
 }
 
-/// Two groups, then a rewrite on each with a command after it, then the third section, of which the last byte is what paper lacks.
+/// Two groups, then a rewrite on each with a command after it, a change, then the third section, of which the last byte is what paper lacks.
 fn whole() -> Sheet {
-    let commands = [rewrite(0, permutation(&[3, 1, 2])), count_up(1, 9), rewrite(1, permutation(&[2, 1])), store(0, 6, 5)];
+    let commands = [rewrite(0, permutation(&[3, 1, 2])), count_up(1, 9), rewrite(1, permutation(&[2, 1])), store(0, 6, 5), change_zero(0)];
     let mut whole = sheet(&[&[3, 1, 2], &[7, 9]], &commands);
     whole.groups[1].zero = Zero::New;
     whole
@@ -67,7 +71,7 @@ fn whole() -> Sheet {
 type Fault = (Reason, fn(&mut Sheet));
 
 /// Faults of that sheet, in its sequence.
-const FAULTS: [Fault; 13] = [
+const FAULTS: [Fault; 14] = [
     (Reason::Sheet, |sheet| sheet.groups.resize(65, Group::from_levels(&[0, 1]))),
     (Size, |sheet| sheet.groups[0].n = 1),
     (Tie, |sheet| sheet.groups[0].levels[2] = 3),
@@ -81,6 +85,7 @@ const FAULTS: [Fault; 13] = [
     (Fit, |sheet| target(&mut sheet.commands[2]).n = usize::MAX),
     (Muddle, |sheet| target(&mut sheet.commands[2]).cells[2] = 3),
     (Reason::Sheet, |sheet| sheet.commands[3].group = 2),
+    (Reason::Sheet, |sheet| sheet.commands[4].group = 64),
 ];
 
 /// "The first met in the sheet's sequence", of every choice of these faults; "9 paper [..] comes after all others".
@@ -114,7 +119,7 @@ fn limits() {
         assert_eq!(written(&Sheet { groups: vec![Group { n, levels, zero: Zero::New }], commands: vec![] }).err(), expected, "{n} cells");
     }
     for (group, expected) in [(0, None), (63, None), (64, Some(Reason::Sheet)), (255, Some(Reason::Sheet))] {
-        for command in [count_up(group, 0), store(group, 0, 0), rewrite(group, permutation(&[0, 0, 0]))] {
+        for command in [count_up(group, 0), store(group, 0, 0), rewrite(group, permutation(&[0, 0, 0])), change_zero(group)] {
             assert_eq!(written(&Sheet { commands: vec![command], ..groups(64) }).err(), expected, "group {group}");
         }
     }
@@ -159,6 +164,28 @@ fn read_and_written() {
     assert_eq!(accepted(&EXAMPLE), expected);
     // The count and the number of the third section, each in one way.
     assert_eq!(accepted(&[&EXAMPLE[..], &[1, 0]].concat()), expected + 2);
+    // A change before and one after, the kind and the group number of each in one way. With its kind as 4 the store is a change too, and its m, s and the last change
+    // are a store.
+    let changes = [&EXAMPLE[..8], &[5, 0, 4, 0], &EXAMPLE[10..], &[4, 0]].concat();
+    assert_eq!(accepted(&changes), expected + 4 + 1);
+    assert_eq!(accepted(&[&changes[..], &[1, 0]].concat()), expected + 4 + 1 + 2);
+}
+
+/// "Writing takes kind 4 as well": "a group byte and nothing more". In lent lists of every length; and read again, with "an early end, or bytes after".
+#[test]
+fn changes() {
+    let held = sheet(&[&[7, 9], &[3, 1, 2]], &[change_zero(1), count_up(0, 1), change_zero(0), change_zero(1)]);
+    let bytes = [&[2, 2, 7, 0, 9, 0, 3, 3, 0, 1, 0, 2, 0][..], &[4, 0], &[4, 1], &[1, 0, 1, 0, 0, 0], &[4, 0], &[4, 1]].concat();
+    for room in 0..bytes.len() + 9 {
+        assert_eq!(written_in(&held, room), if room < bytes.len() { Err(Paper) } else { Ok(bytes.clone()) }, "{room}");
+    }
+    for end in 0..bytes.len() {
+        assert_eq!(read_sheet(&bytes[..end]), Err(Reason::Sheet), "{end}");
+    }
+    for after in 0..=255 {
+        assert_eq!(read_sheet(&[&bytes[..], &[after]].concat()), Err(Reason::Sheet), "{after}");
+    }
+    assert_eq!(read_sheet(&bytes), Ok(held));
 }
 
 #[test]

@@ -4,9 +4,9 @@ use Prim.Native.Nat.{_+_}
 use native.Mathlib.Omega.{arith}
 use borrow.Author.Needs.{needs}
 use lib.ListN.{getD}
-use Rattle.sheet.specs.Sheet.{command, bodyAt}
+use Rattle.sheet.specs.Sheet.{changeAt, command, bodyAt}
 use Rattle.sheet.specs.Parts.{entryAnswer}
-use Rattle.sheet.proofs.ByTests.{command-end, command-half, command-stray, command-body, body-count, body-rewrite, body-store, body-none}
+use Rattle.sheet.proofs.ByTests.{command-end, command-half, command-stray, command-body, body-count, body-rewrite, body-store, body-change, body-none}
 use Rattle.sheet.proofs.commands.read_command.Statement.{statement}
 use Rattle.sheet.proofs.commands.read_command.Tie as tie
 
@@ -79,11 +79,16 @@ unfolding entryAnswer
 returns-6 c = c .store-at .ensures ∙ ap entryAnswer (sym (at-body (c .before .before .before) ∙ body-store _ _ _ _ _ (c .before .match .keys3)))
 
 returns-7 : tie.Need-returns-7
+unfolding entryAnswer changeAt
+returns-7 c = c .untargeted .ensures ∙ ap entryAnswer (sym (at-body (c .before .before .before) ∙ body-change _ _ _ _ _ (c .before .match .keys4)))
+
+returns-8 : tie.Need-returns-8
 unfolding entryAnswer
-returns-7 c =
+returns-8 c =
     let other = c .before .match .rest in
     c .refuse4 .ensures
-    ∙ ap entryAnswer (sym (at-body (c .before .before .before) ∙ body-none _ _ _ _ _ (other .0 .0 .1) (other .0 .1) (other .1)))
+    ∙ ap entryAnswer
+    (sym (at-body (c .before .before .before) ∙ body-none _ _ _ _ _ (other .0 .0 .0 .1) (other .0 .0 .1) (other .0 .1) (other .1)))
 
 pub read-command-spec : {M : Type 1} → statement M
 read-command-spec =
@@ -106,7 +111,9 @@ read-command-spec =
     rewrite-at-requires
     store-at-requires
     (λ c κs. tt)
+    (λ c κs. tt)
     returns-4
     returns-5
     returns-6
-    returns-7)
+    returns-7
+    returns-8)

@@ -8,7 +8,7 @@ use Rattle.text.proofs.bench.lay.Tie as tie
 
 -- past the test the outcome can be printed
 printed : (c : tie.Else1) → Printable (c .before .before .before .before .args .sheet .now) (c .before .work-sheet .result .outcome)
-printed c = printable _ _ (c .before .work-sheet .ensures) (c .if1 .left)
+printed c = printable _ _ (c .before .work-sheet .ensures .0) (c .if1 .left)
 
 put-fault-requires : tie.Need-put-fault-requires
 put-fault-requires c κs = search needs
@@ -19,7 +19,7 @@ same-length c = search needs
 returns : tie.Need-returns
 returns c =
     let put = c .before .before in let test = put .before .before in
-    (rw (fault-text _ _ (test .before .work-sheet .ensures) (test .if1 .taken)) at (put .put-fault .ensures .0), omega arith)
+    (rw (fault-text _ _ (test .before .work-sheet .ensures .0) (test .if1 .taken)) at (put .put-fault .ensures .0), omega arith)
 
 put-commands-requires : tie.Need-put-commands-requires
 put-commands-requires c κs = let p = printed (c .before .before) in (p .few, p .long, omega (arith, p .few))

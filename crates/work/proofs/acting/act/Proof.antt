@@ -1,4 +1,5 @@
 -- `work::acting::act` meets its contract: each job by its own contract. Assumes nothing.
+use mathlib.Core.Path.{refl}
 use borrow.Author.Needs.{needs}
 use Rattle.work.proofs.acting.act.Statement.{statement}
 use Rattle.work.proofs.acting.act.Tie as tie
@@ -14,6 +15,9 @@ slice-aggregate-rewrite c = search needs
 
 enum-known-action-2 : tie.Need-enum-known-action-2
 enum-known-action-2 c = search needs
+
+enum-told-2 : tie.Need-enum-told-2
+enum-told-2 c = search needs
 
 same-length : tie.Need-same-length
 same-length c = search needs
@@ -39,6 +43,9 @@ returns-3 c =
     let done = c .before .before in
     rw (done .before .before .before .action2 .given .1) (done .store .ensures .0, done .store .ensures .1 .0)
 
+returns-4 : tie.Need-returns-4
+returns-4 c = rw (c .before .enum-told2 .given .1) (c .done-pushes .ensures, refl)
+
 pub act-spec : {M : Type 1} → statement M
 act-spec =
     tie.close
@@ -50,9 +57,12 @@ act-spec =
     (λ c κs. tt)
     enum-known-action-2
     (λ c κs. tt)
+    enum-told-2
+    (λ c κs. tt)
     same-length
     returns
     same-length-2
     returns-2
     same-length-3
-    returns-3)
+    returns-3
+    returns-4)
