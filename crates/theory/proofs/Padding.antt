@@ -47,6 +47,10 @@ module _ {A : Type 0} (room : ℕ) (z : A) where
   pub padded-length : (xs : List A) → length xs ≤ room → length (padded room z xs) ≡ room
   padded-length xs h = simp (length-append, length-replicate) (omega arith)
 
+  -- an entry of the list
+  pub padded-at : (xs : List A) (i : ℕ) → i < length xs → getD (padded room z xs) i z ≡ getD xs i z
+  padded-at xs i h = List·getD-append xs (replicate (room - length xs) z) z i h
+
   -- one more, at the first place that is free
   pub padded-snoc : (n : ℕ) (xs : List A) (x : A) → length xs ≡ n → n < room
       → set (padded room z xs) n x ≡ padded room z (xs ++ x ∷ [])
@@ -69,14 +73,14 @@ zeros zero i = refl
 zeros (suc n) zero = refl
 zeros (suc n) (suc i) = zeros n i
 
-zeros-past : (xs : List ℕ) (n i : ℕ) → length xs ≤ i → getD (xs ++ replicate n 0) i 0 ≡ 0
+pub zeros-past : (xs : List ℕ) (n i : ℕ) → length xs ≤ i → getD (xs ++ replicate n 0) i 0 ≡ 0
 zeros-past [] n i h = zeros n i
 zeros-past (x ∷ xs) n zero h = absurd (omega arith)
 zeros-past (x ∷ xs) n (suc i) h = zeros-past xs n i (omega arith)
 
 -- an entry before the zeros
 pub row-at : (xs : List ℕ) (i : ℕ) → i < length xs → getD (row xs) i 0 ≡ getD xs i 0
-row-at xs i h = List·getD-append xs (replicate (20 - length xs) 0) 0 i h
+row-at = padded-at 20 0
 
 pub padding : (xs : List ℕ) → length xs ≤ 20 → Padding xs
 padding xs h =

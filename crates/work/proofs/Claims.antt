@@ -3,8 +3,8 @@ use mathlib.Core.Path.{_≡_, refl, sym, ap, _∙_}
 use mathlib.Core.List.{List, [], _∷_, _++_, append-assoc}
 use Prim.Native.Nat.{ℕ, zero, suc, _+_, _-_, _%_, _≤_, _<_}
 use native.Mathlib.Omega.{arith}
-use lib.ListN.{length, getD, set, take, drop, replicate, length-append, length-set, take-append-drop, replicate-append-replicate, List·getD-append}
-use lib.Seq.{length-take-le, take-at, drop-at, getD-at, take-append-le, drop-append-le, getD-append-add, set-append-left, set-getD, set-set, set-comm, getD-set-same, getD-set-other}
+use lib.ListN.{length, getD, set, take, drop, replicate, length-append, length-set, take-append-drop, replicate-append-replicate}
+use lib.Seq.{length-take-le, take-at, drop-at, getD-at, take-append-le, drop-append-le, set-append-left, set-getD, set-set, set-comm, getD-set-same, getD-set-other}
 use Rattle.theory.specs.Factorial.{factorial}
 use Rattle.theory.specs.Lists.{padded}
 use Rattle.theory.specs.Rank.{rank}
@@ -12,7 +12,7 @@ use Rattle.theory.specs.Levels.{permutationOf}
 use Rattle.theory.specs.Zero.{newZero}
 use Rattle.theory.specs.InTurn.{leftBy, answersTo}
 use Rattle.theory.proofs.Cases.{by-name, by-le}
-use Rattle.theory.proofs.Padding.{padded-length}
+use Rattle.theory.proofs.Padding.{padded-length, padded-at, zeros-past}
 use Rattle.theory.proofs.InTurn as turns
 use Rattle.theory.proofs.InTurn.{left-append, answers-append, left-keeps}
 use Rattle.theory.proofs.Zero.{zero-changed}
@@ -109,21 +109,12 @@ padded-behind {A} room i z x xs le less =
     (simp append-assoc) in
     sym (rw more (take-at (padded room z (putBehind i x xs)) (replicate 1 z) room (padded-length room z (putBehind i x xs) (omega arith))))
 
--- entry g of a row, where a list of more than g is at its front
-padded-at : {A : Type 0} (room g : ℕ) (z : A) (xs : List A) → g < length xs → getD (padded room z xs) g z ≡ getD xs g z
-padded-at room g z xs h = List·getD-append xs _ z g h
-
-padded-past : {A : Type 0} (room g : ℕ) (z : A) (xs : List A) → length xs ≤ g → getD (padded room z xs) g z ≡ getD (replicate (room - length xs) z) (g - length xs) z
-padded-past room g z xs h =
-    let far : g ≡ length xs + (g - length xs) = omega arith in
-    ap (λ (k : ℕ). getD (padded room z xs) k z) far ∙ getD-append-add xs _ (g - length xs) z
-
 -- the value of a group that is left
 value-at : (c : Contents) → Valid c → (g : ℕ) → g < length (c .groups)
     → getD (padded 64 0 (valuesLeft c)) g 0 ≡ valueOf (getD (zerosLeft c) g onOld) (getD (groupsLeft c) g [])
 value-at c v g h =
     let groups = groupsAfterAll-length (c .groups) (c .entries) in
-    padded-at 64 g 0 (valuesLeft c) (omega (arith, values-length c v))
+    padded-at 64 0 (valuesLeft c) g (omega (arith, values-length c v))
     ∙ zipped-at valueOf (zerosLeft c) (groupsLeft c) g (omega (arith, zeros-length c v)) (omega arith) onOld [] 0
 
 module _ (c : Contents) (v : Valid c) (i : ℕ) (le : i ≤ length (c .entries)) (g : ℕ) (w : Valid (withChange i g c)) where
@@ -196,9 +187,9 @@ module _ (c : Contents) (v : Valid c) (i : ℕ) (le : i ≤ length (c .entries))
       by-le (length (c .groups)) k
       (λ past.
       let groups = groupsAfterAll-length (c .groups) es in
-      let long : length (valuesLeft (withChange i g c)) ≡ length (valuesLeft c) = values-length (withChange i g c) w ∙ rw levels-are (sym (values-length c v)) in
-      padded-past 64 k 0 (valuesLeft (withChange i g c)) (omega (arith, long, values-length c v))
-      ∙ rw long (sym (padded-past 64 k 0 (valuesLeft c) (omega (arith, values-length c v)))))
+      let changed : length (valuesLeft (withChange i g c)) ≡ length (groupsLeft c) = values-length (withChange i g c) w ∙ ap length levels-are in
+      let none : (vs : List ℕ) → length vs ≤ k → getD (padded 64 0 vs) k 0 ≡ 0 = λ vs h. zeros-past vs (64 - length vs) k h in
+      none (valuesLeft (withChange i g c)) (omega arith) ∙ sym (none (valuesLeft c) (omega (arith, values-length c v))))
       (λ there.
       value-at (withChange i g c) w k there
       ∙ rw (zeros-are, levels-are, getD-set-other (zerosLeft c) g k onNew onOld ne) (sym (value-at c v k there)))
@@ -213,10 +204,10 @@ module _ (c : Contents) (v : Valid c) (i : ℕ) (le : i ≤ length (c .entries))
         (omega (arith, w .short, behind-length i (change g) es, answers-length (c .groups) es)));
     groups = rw levels-are;
     zeros = rw (zeros-are, length-set) (sym (set-append-left (zerosLeft c) _ g onNew zero-there));
-    value-old = λ old. old-differs (sym (padded-at 64 g onOld (zerosLeft c) zero-there) ∙ old);
+    value-old = λ old. old-differs (sym (padded-at 64 onOld (zerosLeft c) g zero-there) ∙ old);
     values-others = others-same;
     values-new = λ new.
-        let is : getD (zerosLeft c) g onOld ≡ onNew = sym (padded-at 64 g onOld (zerosLeft c) zero-there) ∙ new in
+        let is : getD (zerosLeft c) g onOld ≡ onNew = sym (padded-at 64 onOld (zerosLeft c) g zero-there) ∙ new in
         let none : zerosLeft (withChange i g c) ≡ zerosLeft c = zeros-are ∙ ap (set (zerosLeft c) g) (sym is) ∙ set-getD (zerosLeft c) g onOld in
         rw (none, levels-are);
   }
