@@ -29,7 +29,7 @@ extern "C" {
 
 /* The version of this header and its library; README.md and the Rust package have the same. The second number counts landings (docs/landings/), each of which
  * may change what a caller sees; the third counts corrections since, which change nothing that a caller relies on. The first is 0 until a release. */
-#define TM_VERSION "0.15.0"
+#define TM_VERSION "0.16.0"
 /* The most cells of a group, and the places of a record's row. */
 #define TM_CELLS 20
 /* The most bytes of a sheet without fault; a longer one is faulty. */
@@ -73,9 +73,13 @@ typedef struct tm_permuted {
     tm_permutation permutation;
 } tm_permuted;
 
+/* The place that the next step pushes, and how it was chosen (document 02): how many times "is the largest cell on top" was tested, and the size of the
+ * shrunken group at which the answer fell. Refused, all three are 0. */
 typedef struct tm_placed {
     uint8_t number;
-    size_t place;
+    size_t place; /* 2 to n */
+    size_t tests; /* 1 to n - 2; 0 where n is 2 */
+    size_t size;  /* 2 to n */
 } tm_placed;
 
 /* The n digits, b0 first, the last always 0; 0 past them. */
@@ -129,7 +133,10 @@ typedef struct tm_printed {
  * Refused: 1 size, n is not 2 to 20; 3 muddle, the record is no permutation; 5 value, `place` is not 2 to n. */
 tm_permuted tm_push(tm_permutation permutation, size_t place);
 
-/* The place, 2 to n, that the next step pushes: the step to the permutation whose rank is one higher, or from the last rank to rank 0.
+/* The place, 2 to n, that the next step pushes: the step to the permutation whose rank is one higher, or from the last rank to rank 0. It is chosen so: while
+ * the group has more than two cells, it is tested whether the largest, that of the highest name, is on top; if so, the group shrinks to its other cells, lowest
+ * first. `tests` is how many times that was tested. `size` is the size of the first group, whole or shrunken, whose largest cell is not on top, or 2. A round
+ * of n! steps has 3! + 4! + ... + n! tests, wherever it starts.
  * Refused: 1 size, n is not 2 to 20; 3 muddle, the record is no permutation. */
 tm_placed tm_successor(tm_permutation permutation);
 

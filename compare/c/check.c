@@ -7,7 +7,8 @@
 /* The layouts that compare/bindings/src/raw.rs asserts too. */
 _Static_assert(sizeof(tm_permutation) == 32 && offsetof(tm_permutation, cells) == 8, "tm_permutation");
 _Static_assert(sizeof(tm_permuted) == 40 && offsetof(tm_permuted, permutation) == 8, "tm_permuted");
-_Static_assert(sizeof(tm_placed) == 16 && offsetof(tm_placed, place) == 8, "tm_placed");
+_Static_assert(sizeof(tm_placed) == 32 && offsetof(tm_placed, place) == 8, "tm_placed");
+_Static_assert(offsetof(tm_placed, tests) == 16 && offsetof(tm_placed, size) == 24, "tm_placed");
 _Static_assert(sizeof(tm_digit_row) == 21 && offsetof(tm_digit_row, row) == 1, "tm_digit_row");
 _Static_assert(sizeof(tm_ranked) == 16 && offsetof(tm_ranked, rank) == 8, "tm_ranked");
 _Static_assert(sizeof(tm_valued) == 16 && offsetof(tm_valued, value) == 8, "tm_valued");
@@ -59,9 +60,6 @@ static void check_permutations(void) {
     CHECK(answer.number == TM_DONE && same(answer.permutation, next));
     CHECK(refused(tm_push(p, 1), TM_VALUE) && refused(tm_push(p, 5), TM_VALUE));
     CHECK(refused(tm_push(small, 2), TM_SIZE) && refused(tm_push(muddled, 2), TM_MUDDLE));
-    tm_placed placed = tm_successor(p), unplaced = tm_successor(muddled);
-    CHECK(placed.number == TM_DONE && placed.place == 2);
-    CHECK(unplaced.number == TM_MUDDLE && unplaced.place == 0);
     tm_digit_row row = tm_digits(six), no_row = tm_digits(small);
     CHECK(row.number == TM_DONE && memcmp(row.row, digits, TM_CELLS) == 0);
     CHECK(no_row.number == TM_SIZE && memcmp(no_row.row, none, TM_CELLS) == 0);
@@ -71,6 +69,38 @@ static void check_permutations(void) {
     answer = tm_unrank(6, 219);
     CHECK(answer.number == TM_DONE && same(answer.permutation, six));
     CHECK(refused(tm_unrank(3, 6), TM_VALUE) && refused(tm_unrank(21, 0), TM_SIZE));
+}
+
+static int placed(tm_placed answer, size_t place, size_t tests, size_t size) {
+    return answer.number == TM_DONE && answer.place == place && answer.tests == tests && answer.size == size;
+}
+
+static int unplaced(tm_placed answer, uint8_t number) {
+    return answer.number == number && answer.place == 0 && answer.tests == 0 && answer.size == 0;
+}
+
+/* Document 02, request 9, of document 01's steps, of two cells, and of twenty: in `last` each shrunken group has its largest cell on top, so that those of 20 to
+ * 3 cells are tested; in `rising` the first test decides. Then a whole round of four cells, of 30 tests. */
+static void check_next_step(void) {
+    const tm_permutation p = {4, {4, 2, 3, 1}}, q = {4, {4, 1, 2, 3}}, two = {2, {1, 2}}, swapped = {2, {2, 1}};
+    const tm_permutation last = {20, {20, 18, 16, 14, 12, 10, 8, 6, 4, 2, 1, 3, 5, 7, 9, 11, 13, 15, 17, 19}};
+    const tm_permutation rising = {20, {1, 2, 3, 4, 5, 6, 7, 8, 9, 10, 11, 12, 13, 14, 15, 16, 17, 18, 19, 20}};
+    const tm_permutation empty = {0, {0}}, small = {1, {1}}, muddled = {4, {4, 2, 2, 1}}, past = {3, {3, 2, 1, 4}};
+    tm_permutation large = rising;
+    large.n = 21;
+    CHECK(placed(tm_successor(p), 2, 2, 3) && placed(tm_successor(q), 3, 2, 2));
+    CHECK(placed(tm_successor(two), 2, 0, 2) && placed(tm_successor(swapped), 2, 0, 2));
+    CHECK(placed(tm_successor(last), 11, 18, 2) && placed(tm_successor(rising), 20, 1, 20));
+    CHECK(unplaced(tm_successor(empty), TM_SIZE) && unplaced(tm_successor(small), TM_SIZE) && unplaced(tm_successor(large), TM_SIZE));
+    CHECK(unplaced(tm_successor(muddled), TM_MUDDLE) && unplaced(tm_successor(past), TM_MUDDLE));
+    tm_permutation here = p;
+    size_t tests = 0;
+    for (int step = 0; step < 24; step++) {
+        tm_placed next = tm_successor(here);
+        tests += next.tests;
+        here = tm_push(here, next.place).permutation;
+    }
+    CHECK(tests == 30 && same(here, p));
 }
 
 static int valued(tm_valued answer, uint8_t number, uint64_t value) {
@@ -378,6 +408,7 @@ static void check_null(void) {
 
 int main(void) {
     check_permutations();
+    check_next_step();
     check_values();
     check_levels();
     check_rewriting();

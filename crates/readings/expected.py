@@ -144,6 +144,34 @@ CHANGED = {f"write 41 | {HELD_CHANGED}": "0 41 | 1 3 3 0 1 0 2 0 4 0 1 0 4 0 0 0
                "0 34 | 2 2 7 0 9 0 3 3 0 1 0 2 0 5 0 4 1 1 0 5 0 0 0 2 1 2 1 3 4 1 4 0 1 1 9 9 9 9 9 9",
            "write 30 | 2 | 2 7 9 | 3 3 1 2 | 2 | 4 1 | 4 2": "8 0 |" + " 9" * 30, "write 0 | 1 | 2 7 9 | 1 | 4 1": "8 0 |"}
 
+# Document 02, request 9, by hand: after the number the place, the tests, and the size of the group at which the answer fell. Document 01's starred orders: 2 cells
+# have no test; of 3 cells the one test decides; [4,2,3,1] shrinks to [1,3,2], where 3 is not on top, [4,1,2,3] to [3,2,1] and [4,2,1,3] to [3,1,2], where it is
+TESTED = {"successor 2 | 1 2": "0 2 0 2", "successor 2 | 2 1": "0 2 0 2", "successor 3 | 1 3 2": "0 3 1 3", "successor 3 | 2 1 3": "0 3 1 3",
+          "successor 3 | 3 2 1": "0 2 1 2", "successor 3 | 2 3 1": "0 3 1 3", "successor 3 | 1 2 3": "0 3 1 3", "successor 3 | 3 1 2": "0 2 1 2",
+          "successor 4 | 1 4 2 3": "0 4 1 4", "successor 4 | 4 2 3 1": "0 2 2 3", "successor 4 | 1 2 3 4": "0 4 1 4", "successor 4 | 4 1 2 3": "0 3 2 2",
+          "successor 4 | 4 2 1 3": "0 3 2 2", "successor 6 | 2 5 4 3 6 1": "0 6 1 6", "successor 6 | 1 6 4 2 3 5": "0 6 1 6"}
+# .. 5 cells, each size: 5 not on top; then [3,4,2,1]; [4,1,3,2] and [2,3,1]; [4,1,2,3] and [3,2,1]
+TESTED |= {"successor 5 | 4 5 1 2 3": "0 5 1 5", "successor 5 | 5 1 2 4 3": "0 2 2 4", "successor 5 | 5 2 3 1 4": "0 4 3 3", "successor 5 | 5 3 2 1 4": "0 3 3 2"}
+# .. the tops of shrunken groups are places 1, n, 2, n-1, .. by turns. 20 cells, with 20, 19, .. there: none, 20 alone, down to 12, to 5, to 4, to 3; then 19 cells,
+# all there. The place is n + 1 less the former one, from the size up: of 11 it goes 11, 2, 12, 3, 13, 4, 14, 5, 15, 6
+TESTED |= {f"successor 20 | {NAMES}": "0 20 1 20", "successor 20 | 20 19 18 17 16 15 14 13 12 11 10 9 8 7 6 5 4 3 2 1": "0 2 2 19",
+           "successor 20 | 20 18 16 14 12 11 10 9 8 7 6 5 4 3 2 1 13 15 17 19": "0 6 10 11",
+           "successor 20 | 20 18 16 14 12 10 8 6 1 2 3 4 5 7 9 11 13 15 17 19": "0 12 17 4",
+           "successor 20 | 20 18 16 14 12 10 8 6 4 3 2 1 5 7 9 11 13 15 17 19": "0 10 18 3",
+           "successor 20 | 20 18 16 14 12 10 8 6 4 2 1 3 5 7 9 11 13 15 17 19": "0 11 18 2",
+           "successor 19 | 19 17 15 13 11 9 7 5 3 1 2 4 6 8 10 12 14 16 18": "0 10 17 2"}
+# .. sent back: size, also of a row that is no order, and muddle, also where cell n seems on top
+TESTED |= {"successor 0 | 0": "1 0 0 0", "successor 1 | 1": "1 0 0 0", f"successor 21 | {NAMES}": "1 0 0 0", "successor 1 | 2 2": "1 0 0 0",
+           "successor 4 | 1 2 2 4": "3 0 0 0", "successor 4 | 1 2 3 4 5": "3 0 0 0", "successor 4 | 0": "3 0 0 0",
+           "successor 2 | 2 1 0 0 0 0 0 0 0 0 0 0 0 0 0 0 0 0 0 1": "3 0 0 0"}
+# .. "summed over a whole round of n! steps from any order [..]: 6 for three cells, 30 for four"; and by hand the next, with 5!, 6! and 7! more
+ROUNDS = {2: 0, 3: 6, 4: 30, 5: 150, 6: 870, 7: 5910}
+# .. parts of a round, by the digits of the ranks met: a group is tested where all digits before its own are the last ones. From rank 0 of 4 cells, ranks 3 and 7
+# have two tests. [1,2,..,20] has digits 18,18,16,16,14,..: of 1,000 steps 50 have the last b0, 19; of these 3 the last b1, 18; of these 1 the last b2, 17, and there
+# b3 is still 16, its last, and b4 is not
+RUNS = {"run_steps 0 of 4 | 1 4 2 3": 0, "run_steps 10 of 4 | 1 4 2 3": 12, "run_steps 1 of 2 | 2 1": 0, f"run_steps 1 of 20 | {NAMES}": 1,
+        f"run_steps 1000 of 20 | {NAMES}": 1000 + 50 + 3 + 1 + 1, "run_steps 0 of 1 | 1": 0, "run_steps 1 of 1 | 1": 0, "run_steps 1 of 4 | 1 2 2 4": 0}
+
 # Document 001. The text at hand has no pictures: of Example 1 it has the places, of Example 9 and Fig. 2 what is said of them, of the levels in Fig. 3 no numbers.
 EXAMPLE_1 = [2, 3, 3, 2, 3, 3]
 # Example 5: the columns of the first block of C' and those of C''; of the second block the second row; the last rows of the second and the third
@@ -458,6 +486,55 @@ def check_zeros(lines):
             assert [value_on(zero, read(levels)) for zero in (0, 1)] == [(value + total) % factorial(n) for value in first]
 
 
+def successor_001(n, order, queries):
+    """Document 001's function as printed; its steps are "the comparison in line 4", each noted by its n."""
+    if n == 2:
+        return 2
+    queries.append(n)
+    if order[0] != n:
+        return n
+    return n - successor_001(n - 1, order[:0:-1], queries) + 1
+
+
+def tests_by_rank(n, r, k):
+    """The tests of k steps from rank r on: i cells are tested where all digits before theirs are the last ones, so where the rank plus 1 is a multiple of n!/i!."""
+    return sum((r + k) // perm(n, n - i) - r // perm(n, n - i) for i in range(3, n + 1))
+
+
+def check_tests(lines):
+    for line, expected in TESTED.items():
+        assert answer(line).split(" : ")[1] == expected and line in lines
+    for line, total in RUNS.items():
+        assert answer(line).split(" | ")[-1] == str(total) and line in lines
+    # by the words: every larger shrunken group has its largest cell on top, and this one has not or has two cells. "The tests equal those of document 001's function",
+    # and over all orders, as its Theorem 10 has it, i cells are tested i! times
+    for n in range(2, 7):
+        asked = []
+        for order in permutations(range(1, n + 1)):
+            groups, queries = [[*order]], []
+            while len(groups[-1]) > 2:
+                groups.append(groups[-1][:0:-1])
+            on_top = {len(group): group[0] == max(group) for group in groups}
+            tests, size = tests_and_size([*order])
+            assert all(on_top[larger] for larger in range(size + 1, n + 1)) and (size == 2 or size > 2 and not on_top[size])
+            assert tests == (n - 2 if size == 2 else n + 1 - size) == tests_by_rank(n, rank([*order]), 1)
+            assert successor_001(n, [*order], queries) == successor([*order]) and queries == [*range(n, n - tests, -1)]
+            asked += queries
+        assert all(asked.count(i) == factorial(i) for i in range(3, n + 1)) and len(asked) == ROUNDS[n]
+    # "from any order", "the sum of i! for i from 3 to n": whole rounds from all orders of up to 5 cells and from some of 6 and 7. The readings have rounds of each
+    for n, total in ROUNDS.items():
+        assert total == sum(factorial(i) for i in range(3, n + 1))
+        for order in permutations(range(1, n + 1)) if n < 6 else [range(1, n + 1), range(n, 0, -1), rank_zero(n)]:
+            assert do_run_steps(factorial(n), n, *order)[-1] == total
+        rounds = [answer(line) for line in lines if line.startswith(f"run_steps {factorial(n)} of {n} | ")]
+        assert len(rounds) >= 2 and all(" : 0 " in line and line.endswith(f" | {total}") for line in rounds)
+    # "for every n up to 20": 500 steps from orders of each n have the tests that their ranks give, and by ranks a whole round has that sum
+    for n in range(2, 21):
+        for order in ([*range(1, n + 1)], [*range(n, 0, -1)], unrank(n, factorial(n) - 1), unrank(n, factorial(n) // 3)):
+            assert do_run_steps(500, n, *order)[-1] == tests_by_rank(n, rank(order), 500)
+            assert tests_by_rank(n, rank(order), factorial(n)) == sum(factorial(i) for i in range(3, n + 1))
+
+
 text = Path(__file__).with_name("stdin").read_text()
 assert len(text) <= 65536, "what the program reads"
 lines = text.splitlines()
@@ -472,5 +549,6 @@ check_charges({*lines})
 check_bands({*lines})
 check_reach({*lines})
 check_zeros({*lines})
+check_tests({*lines})
 for line in lines:
     print(answer(line))

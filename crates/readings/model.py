@@ -1,6 +1,6 @@
 """A model of document 01's rules on lists, as the paper words them, with the storing rule of document 02's request 1 in place of its own, the writing of request 2,
-the charge of request 3, the bands of request 4, the listing of request 6, the zeros of request 7 and the change of request 8; nothing of the code. `expected.py`
-checks it against what documents 01, 02 and 001 print; the sheets of `sheets` are worked and written by it too."""
+the charge of request 3, the bands of request 4, the listing of request 6, the zeros of request 7, the change of request 8 and the tests of request 9; nothing of
+the code. `expected.py` checks it against what documents 01, 02 and 001 print; the sheets of `sheets` are worked and written by it too."""
 from itertools import chain, product, repeat
 from math import factorial, perm, prod
 
@@ -19,6 +19,18 @@ def successor(order):
     if order[0] != n:
         return n
     return n + 1 - successor(order[:0:-1])  # places n, n-1, ..., 2
+
+
+def tests_and_size(order):
+    """Document 02, request 9: "how many times 'is the largest cell on top' was tested, and the size of the shrunken group at which the answer fell: the first whose
+    largest cell is not on top, or 2"; "n = 2 has none". A group shrinks to its places n, n-1, ..., 2."""
+    tests, group = 0, order
+    while len(group) > 2:
+        tests += 1
+        if group[0] != max(group):
+            break
+        group = group[:0:-1]
+    return tests, len(group)
 
 
 def step(order):
@@ -185,7 +197,7 @@ def do_digits(n, *names):
 
 def do_successor(n, *names):
     number = lowest(**record_reasons(n, row([*names])))
-    return [number, 0 if number else successor([*names])]
+    return [number, 0, 0, 0] if number else [0, successor([*names]), *tests_and_size([*names])]
 
 
 def do_push(i, n, *names):
@@ -194,12 +206,14 @@ def do_push(i, n, *names):
 
 
 def do_run_steps(k, n, *names):
+    """k steps: the record at the end, its rank, each cell's pushes, and the tests of all the steps, each on the record that it gets."""
     number = lowest(**record_reasons(n, row([*names])))
-    order, pushes = [] if number else [*names], row([])
+    order, pushes, total = [] if number else [*names], row([]), 0
     for _ in range(0 if number else k):
+        total += tests_and_size(order)[0]
         order = step(order)
         pushes[order[0] - 1] += 1
-    return [number, *record(order), "|", 0 if number else rank(order), "|", *pushes]
+    return [number, *record(order), "|", 0 if number else rank(order), "|", *pushes, "|", total]
 
 
 def do_unrank(n, r):

@@ -92,6 +92,18 @@ impl Permutation {
     }
 }
 
+/// The next step, and how it was chosen.
+#[derive(Clone, Copy, Debug, PartialEq, Eq)]
+pub struct NextStep {
+    /// The place that it pushes, 2 to n.
+    pub place: usize,
+    /// How many times "is the largest cell on top" was tested. Two cells are not tested, so that n = 2 has none.
+    pub tests: usize,
+    /// The size of the shrunken group at which the answer fell: the first whose largest cell is not on top, or 2. A group whose largest cell is on top shrinks to
+    /// its other cells, lowest first.
+    pub size: usize,
+}
+
 /// What a job that pushes on levels spends, when done.
 #[derive(Clone, Copy, Debug, PartialEq, Eq)]
 pub struct Spent {
@@ -120,11 +132,11 @@ pub fn push(permutation: Permutation, place: usize) -> Result<Permutation, Reaso
     given(answer.number, answer.permutation)
 }
 
-/// The place that the next step pushes.
+/// The place that the next step pushes, and how it was chosen.
 /// Refused: Size, Muddle.
-pub fn successor(permutation: Permutation) -> Result<usize, Reason> {
+pub fn successor(permutation: Permutation) -> Result<NextStep, Reason> {
     let answer = raw::successor(permutation);
-    given(answer.number, answer.place)
+    given(answer.number, NextStep { place: answer.place, tests: answer.tests, size: answer.size })
 }
 
 /// The digits of the rank, b0 first, with 0 past n.

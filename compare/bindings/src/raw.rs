@@ -18,12 +18,14 @@ pub struct Permuted {
     pub permutation: Permutation,
 }
 
-/// What [`successor`] answers: a place from 2 to n.
+/// What [`successor`] answers: a place from 2 to n, and how it was chosen.
 #[repr(C)]
 #[derive(Clone, Copy, Debug, PartialEq, Eq)]
 pub struct Placed {
     pub number: u8,
     pub place: usize,
+    pub tests: usize,
+    pub size: usize,
 }
 
 /// What [`digits`] answers: b0 first, 0 past n.
@@ -94,7 +96,7 @@ pub struct Written {
 // The layouts that compare/c/check.c asserts too.
 const _: () = assert!(size_of::<Permutation>() == 32 && offset_of!(Permutation, cells) == 8);
 const _: () = assert!(size_of::<Permuted>() == 40 && offset_of!(Permuted, permutation) == 8);
-const _: () = assert!(size_of::<Placed>() == 16 && offset_of!(Placed, place) == 8);
+const _: () = assert!(size_of::<Placed>() == 32 && offset_of!(Placed, place) == 8 && offset_of!(Placed, tests) == 16 && offset_of!(Placed, size) == 24);
 const _: () = assert!(size_of::<Digits>() == 21 && offset_of!(Digits, row) == 1);
 const _: () = assert!(size_of::<Ranked>() == 16 && offset_of!(Ranked, rank) == 8);
 const _: () = assert!(size_of::<Valued>() == 16 && offset_of!(Valued, value) == 8);

@@ -1,7 +1,7 @@
 //! One comparing function per exported function: the raw answer, the `Result` and every lent list afterwards, each beside the model's.
 use crate::held::{held, zero, Rows};
 use crate::lent::{Entry, Lent};
-use model::Spent;
+use model::{NextStep, Spent};
 use std::fmt::Debug;
 use turretmedlar::{raw, Permutation, Reason};
 
@@ -95,8 +95,8 @@ impl Cross {
     }
 
     pub fn successor(&mut self, record: Permutation) {
-        let answer = raw::successor(record);
-        self.agree(&("successor", record), model::successor(&twin(record)), (answer.number, answer.place), turretmedlar::successor(record));
+        let safe = turretmedlar::successor(record).map(next_step);
+        self.agree(&("successor", record), model::successor(&twin(record)), placed(raw::successor(record)), safe);
     }
 
     pub fn digits(&mut self, record: Permutation) {
@@ -286,6 +286,15 @@ fn of_library(record: Permutation) -> Record {
 
 fn permuted(answer: raw::Permuted) -> (u8, Record) {
     (answer.number, of_library(answer.permutation))
+}
+
+/// The model's words for the next step.
+fn next_step(step: turretmedlar::NextStep) -> NextStep {
+    NextStep { place: step.place, tests: step.tests, size: step.size }
+}
+
+fn placed(answer: raw::Placed) -> (u8, NextStep) {
+    (answer.number, NextStep { place: answer.place, tests: answer.tests, size: answer.size })
 }
 
 /// The model's words for what was spent.

@@ -1,7 +1,7 @@
 //! Jobs on permutations: push, successor, digits, rank and unrank, and damaged records in every job that takes one.
 use cross::cases::{factorial, pairs, permutations, places, record, WRONG_SIZES};
 use cross::{Cross, Random};
-use turretmedlar::Permutation;
+use turretmedlar::{push, raw, successor, NextStep, Permutation};
 
 #[test]
 fn every_permutation_to_six_at_every_place() {
@@ -60,12 +60,85 @@ fn steps_from_each_permutation_to_the_next() {
         for _ in 0..1500 {
             cross.rank(permutation);
             cross.successor(permutation);
-            let place = turretmedlar::successor(permutation).expect("a permutation");
+            let place = successor(permutation).expect("a permutation").place;
             cross.push(permutation, place);
-            permutation = turretmedlar::push(permutation, place).expect("a place");
+            permutation = push(permutation, place).expect("a place");
         }
     }
     cross.met(&[0]);
+}
+
+/// Document 02, request 9, of document 01's steps and of two cells: each a permutation, the place, the tests and the size.
+#[test]
+fn how_the_steps_of_document_01_are_chosen() {
+    let table: [(&[u8], usize, usize, usize); 5] =
+        [(&[4, 2, 3, 1], 2, 2, 3), (&[4, 1, 2, 3], 3, 2, 2), (&[4, 2, 1, 3], 3, 2, 2), (&[1, 2], 2, 0, 2), (&[2, 1], 2, 0, 2)];
+    for (names, place, tests, size) in table {
+        assert_eq!(successor(record(names)), Ok(NextStep { place, tests, size }), "{names:?}");
+    }
+}
+
+#[test]
+fn every_next_step_to_eight() {
+    let mut cross = Cross::default();
+    (2..=8).flat_map(permutations).for_each(|names| cross.successor(record(&names)));
+    cross.met(&[0]);
+}
+
+/// Random permutations have their largest cell on top too seldom for this. A group whose largest is not, or one of two, is grown: each next cell comes on top of
+/// the others in reverse, so that the answer falls at the size that it had.
+#[test]
+fn an_answer_at_each_size_of_every_group() {
+    let (mut cross, mut random) = (Cross::default(), Random::seeded(108));
+    for (n, size) in (2..=20).flat_map(|n| (2..=n).flat_map(move |size| [(n, size); 20])) {
+        let mut names = random.names(size);
+        if size > 2 && usize::from(names[0]) == size {
+            names.rotate_left(1);
+        }
+        for cell in size + 1..=n {
+            names.push(cell as u8);
+            names.reverse();
+        }
+        cross.successor(record(&names));
+        let tests = if size == 2 { n - 2 } else { n - size + 1 };
+        assert_eq!(successor(record(&names)).map(|step| (step.tests, step.size)), Ok((tests, size)), "{names:?}");
+    }
+    cross.met(&[0]);
+}
+
+/// "Summed over a whole round of n! steps from any order, they are the sum of i! for i from 3 to n: 6 for three cells, 30 for four." The library alone, from
+/// the first rank, the last and random permutations.
+#[test]
+fn the_tests_of_a_whole_round() {
+    let mut random = Random::seeded(109);
+    for (n, total) in (2..).zip([0, 6, 30, 150, 870, 5_910]) {
+        let round = factorial(n);
+        assert_eq!((3..=n).map(factorial).sum::<u64>(), total);
+        let ends = [0, round - 1].map(|rank| turretmedlar::unrank(n, rank).expect("a rank"));
+        for start in ends.into_iter().chain((0..6).map(|_| record(&random.names(n)))) {
+            let (mut here, mut tests) = (start, 0);
+            for _ in 0..round {
+                let step = successor(here).expect("a permutation");
+                tests += step.tests as u64;
+                here = push(here, step.place).expect("a place");
+            }
+            assert_eq!((here, tests), (start, total), "{n} cells");
+        }
+    }
+}
+
+/// Damaged records are compared with the model below; here all that crosses is held to be zeros.
+#[test]
+fn a_refused_next_step_is_zeros() {
+    let zeros = |number| raw::Placed { number, place: 0, tests: 0, size: 0 };
+    let rising = record(&(1..=20).collect::<Vec<u8>>());
+    for n in WRONG_SIZES {
+        assert_eq!(raw::successor(Permutation { n, ..rising }), zeros(1), "{n}");
+    }
+    for n in 2..20 {
+        assert_eq!(raw::successor(Permutation { n, ..rising }), zeros(3), "{n}");
+        assert_eq!(raw::successor(Permutation { n: n + 1, ..record(&rising.cells[..n]) }), zeros(3), "{n}");
+    }
 }
 
 #[test]

@@ -96,7 +96,7 @@ fn steps_add_to_the_value() {
             let mut here = permutation_of_value(n, start, zero).expect("a value");
             for k in 0..1000 {
                 assert_eq!(value(here, zero), Ok((start + k) % round), "{k} steps from {start} of {n} cells, {zero:?}");
-                here = successor(here).and_then(|place| push(here, place)).expect("a permutation");
+                here = successor(here).and_then(|step| push(here, step.place)).expect("a permutation");
             }
         }
     }

@@ -26,6 +26,14 @@ impl Permutation {
     }
 }
 
+/// What the next step gives: "the place to push", and by document 02, request 9, the tests and the size of the shrunken group.
+#[derive(Clone, Copy, Debug, Default, PartialEq, Eq)]
+pub struct NextStep {
+    pub place: usize,
+    pub tests: usize,
+    pub size: usize,
+}
+
 /// "A row of twenty with 0 past n"
 pub(crate) fn padded<T: Copy + Default>(values: &[T]) -> [T; 20] {
     let mut row = [T::default(); 20];
@@ -66,9 +74,28 @@ pub(crate) fn successor_of_names(names: &[u8]) -> usize {
     }
 }
 
-/// "Next step of an order, as the place to push"
-pub fn successor(permutation: &Permutation) -> Result<usize, Reason> {
-    permutation.names().map(successor_of_names)
+/// Document 02, request 9: "how many times "is the largest cell on top" was tested, and the size of the shrunken group at which the answer fell: the first
+/// whose largest cell is not on top, or 2." "The tests equal those of document 001's function", so that a group of two is not tested. Apart from the place, since
+/// counting up asks for that alone.
+fn tests_and_size_of_names(names: &[u8]) -> (usize, usize) {
+    let mut group = names.to_vec();
+    let mut tests = 0;
+    while group.len() > 2 {
+        tests += 1;
+        if usize::from(group[0]) != group.len() {
+            break;
+        }
+        group.remove(0);
+        group.reverse();
+    }
+    (tests, group.len())
+}
+
+/// "Next step of an order, as the place to push", with "the reason beside it"
+pub fn successor(permutation: &Permutation) -> Result<NextStep, Reason> {
+    let names = permutation.names()?;
+    let (tests, size) = tests_and_size_of_names(names);
+    Ok(NextStep { place: successor_of_names(names), tests, size })
 }
 
 /// "Let cell n stand at place i. The digit is (i - 2) modulo n, from 0 to n - 1.

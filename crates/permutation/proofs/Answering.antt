@@ -9,12 +9,11 @@ use lib.ListN.{length}
 use Rattle.theory.specs.Reasons.{value}
 use Rattle.theory.specs.Permutation.{IsPermutation}
 use Rattle.theory.specs.Push.{push}
-use Rattle.theory.specs.Successor.{successor}
 use Rattle.theory.proofs.Refusal.{refused, answered, orElse-refused}
 use Rattle.theory.proofs.Padding.{padding}
 use Rattle.theory.proofs.Stepping.{push-permutation}
 use Rattle.permutation.specs.Records.{listOf, recordOf, recordNumber}
-use Rattle.permutation.specs.Answers.{noPermutation, pushNumber, pushAnswer, successorAnswer}
+use Rattle.permutation.specs.Answers.{noPermutation, placedIf, pushNumber, pushAnswer, successorAnswer}
 use Rattle.permutation.specs.declared.answers.Permutation.{Permutation}
 use Rattle.permutation.specs.declared.answers.Permuted.{Permuted}
 use Rattle.permutation.proofs.Records.{Sound, fault-record}
@@ -55,7 +54,7 @@ module _ (n : ℕ) (xs : List ℕ) (few : 2 ≤ n) (many : n ≤ 20) (o : IsPerm
   pub list-record : listOf (recordOf xs) ≡ xs
   list-record = padding xs (omega (arith, o .long)) .first
 
-  pub placed-record : successorAnswer (recordOf xs) ≡ record { number = 0; place = successor n xs }
+  pub placed-record : successorAnswer (recordOf xs) ≡ placedIf 0 n xs
   unfolding successorAnswer
   placed-record = rw (fault-record n xs few many o, list-record, o .long)
 

@@ -8,6 +8,7 @@ use Rattle.theory.specs.Reasons.{done, value}
 use Rattle.theory.specs.Refusal.{given, orElse}
 use Rattle.theory.specs.Push.{push}
 use Rattle.theory.specs.Successor.{successor}
+use Rattle.theory.specs.Deciding.{tests, decidingSize}
 use Rattle.permutation.specs.Records.{listOf, recordOf, recordNumber}
 use Rattle.permutation.specs.declared.answers.Permutation.{Permutation}
 use Rattle.permutation.specs.declared.answers.Permuted.{Permuted}
@@ -28,6 +29,16 @@ pushNumber p i = orElse (recordNumber p) (cond (leb 2 i && leb i (p .n)) done va
 unfoldable pub pushAnswer : Permutation → ℕ → Permuted
 pushAnswer p i = permuted (pushNumber p i) (push i (listOf p))
 
--- "Next step of an order, as the place to push"
+-- a job that gives the next step of n cells: its place, and what decided it, where the number says done, and zeros beside any other
+abbrev pub placedIf : ℕ → ℕ → List ℕ → Placed
+placedIf number n xs = record {
+  number = number;
+  place = given number (successor n xs) 0;
+  tests = given number (tests n xs) 0;
+  size = given number (decidingSize n xs) 0;
+}
+
+-- "Next step of an order, as the place to push"; document 02: it "shall also give how many times "is the largest cell on top" was tested, and the size of the
+-- shrunken group at which the answer fell"
 unfoldable pub successorAnswer : Permutation → Placed
-successorAnswer p = record { number = recordNumber p; place = given (recordNumber p) (successor (p .n) (listOf p)) 0 }
+successorAnswer p = placedIf (recordNumber p) (p .n) (listOf p)

@@ -15,10 +15,15 @@ pub struct Permuted {
     pub permutation: Permutation,
 }
 
+// The place that the next step pushes, and what decided it (document 02, request 9).
 #[repr(C)]
 pub struct Placed {
     pub number: u8,
     pub place: usize,
+    // how many times "is the largest cell on top" was tested
+    pub tests: usize,
+    // the size of the shrunken group at which the answer fell
+    pub size: usize,
 }
 
 // A job that was to answer a permutation is refused: zeros beside the number. For the jobs of other crates too.

@@ -27,8 +27,10 @@ pub fn digited(text: &mut Text, at: usize, permutation: Permutation) -> usize {
 
 pub fn placed(text: &mut Text, at: usize, permutation: Permutation) -> usize {
     let answer = successor(permutation);
-    let to = number(text, at, answer.number);
-    field(text, to, answer.place as u64)
+    let mut to = number(text, at, answer.number);
+    to = field(text, to, answer.place as u64);
+    to = field(text, to, answer.tests as u64);
+    field(text, to, answer.size as u64)
 }
 
 pub fn ran(text: &mut Text, at: usize, permutation: Permutation, k: u64) -> usize {
@@ -39,5 +41,7 @@ pub fn ran(text: &mut Text, at: usize, permutation: Permutation, k: u64) -> usiz
     to = mark(text, to, b'|');
     to = field(text, to, answer.rank);
     to = mark(text, to, b'|');
-    counts(text, to, &pushes)
+    to = counts(text, to, &pushes);
+    to = mark(text, to, b'|');
+    field(text, to, answer.tests)
 }

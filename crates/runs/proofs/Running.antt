@@ -1,7 +1,7 @@
 -- A run of steps: what holds when some of them were done, and demand 3 of the whole. Assumes nothing.
-use mathlib.Core.Path.{_≡_, sym, ap, ap₂, _∙_}
+use mathlib.Core.Path.{_≡_, refl, sym, ap, ap₂, _∙_}
 use mathlib.Core.List.{List}
-use Prim.Native.Nat.{ℕ, suc, _+_, _-_, _%_, _≤_}
+use Prim.Native.Nat.{ℕ, suc, _+_, _-_, _%_, _^_, _≤_}
 use native.Mathlib.Omega.{arith}
 use native.Mathlib.Numerals.{add-one}
 use borrow.Author.Tests.{ne-eqb}
@@ -12,13 +12,14 @@ use Rattle.theory.specs.Rank.{rank}
 use Rattle.theory.specs.Factorial.{factorial}
 use Rattle.theory.specs.Zero.{valueFrom}
 use Rattle.theory.specs.Run.{steps, pushCount}
+use Rattle.theory.specs.Deciding.{tests, totalTests}
 use Rattle.theory.specs.Demand3.{Demand3}
 use Rattle.theory.proofs.Padding.{row-at}
 use Rattle.theory.proofs.Stepping.{stepping}
 use Rattle.theory.proofs.Zero.{valuing}
 use Rattle.theory.proofs.Demand3.{demand3}
 use Rattle.permutation.specs.Records.{listOf, recordOf, recordNumber}
-use Rattle.permutation.specs.Answers.{successorAnswer, pushAnswer}
+use Rattle.permutation.specs.Answers.{placedIf, successorAnswer, pushAnswer}
 use Rattle.ranking.specs.Answers.{rankAnswer}
 use Rattle.permutation.specs.declared.answers.Permutation.{Permutation}
 use Rattle.permutation.specs.declared.answers.Permuted.{Permuted}
@@ -28,9 +29,10 @@ use Rattle.permutation.proofs.Records.{Sound}
 use Rattle.permutation.proofs.Answering.{placed-record, pushed-record, list-record}
 use Rattle.ranking.specs.Zeros.{zeroPermutation}
 use Rattle.ranking.proofs.Values.{ranked-record, valued-record}
-use Rattle.runs.specs.Steps.{pushCounts, runAnswer, countIn, RunOf}
+use Rattle.runs.specs.Steps.{pushCounts, runAnswer, countIn, RunOf, TestsOf}
 use Rattle.runs.specs.declared.answers.Ran.{Ran}
 use Rattle.runs.proofs.PushCounts.{Tallied, tallied, counts-none, counts-at}
+use Rattle.runs.proofs.TotalTests.{total-more, tests-of}
 
 -- demand 3 of the list that k steps lead to
 pub run-of : (n : ℕ) → 2 ≤ n → n ≤ 20 → (xs : List ℕ) → IsPermutation n xs → (k : ℕ) (ys : List ℕ) (r : ℕ) (counts : ℕ → ℕ)
@@ -60,10 +62,11 @@ run-of n few many xs o k ys r counts end rank-of count-of = record {
     valued : (z : List ℕ) → valueFrom n z ys ≡ (valueFrom n z xs + k) % factorial n
     valued z = rw end (valuing n z few .counted xs o k)
 
--- `done` steps of the run from p lead to this record, with these counts
-pub record Running (p : Permutation) (done : ℕ) (current : Permutation) (counts : List ℕ) : Type 0 where
+-- `done` steps of the run from p lead to this record, with these counts and this total of tests
+pub record Running (p : Permutation) (done : ℕ) (current : Permutation) (counts : List ℕ) (total : ℕ) : Type 0 where
   pub at : current ≡ recordOf (steps (p .n) done (listOf p))
   pub counted : counts ≡ row (pushCounts (p .n) done (listOf p))
+  pub tested : total ≡ totalTests (p .n) done (listOf p) % 2 ^ 64
 
 module _ (p : Permutation) (s : Sound p) where
   abbrev after : ℕ → List ℕ
@@ -75,17 +78,23 @@ module _ (p : Permutation) (s : Sound p) where
   long : (k : ℕ) → length (after k) ≡ p .n
   long k = orders k .long
 
-  pub running-none : Running p 0 p (replicate 20 0)
-  unfolding steps
-  running-none = record { at = s .is; counted = counts-none (p .n) (s .few) (s .many) (listOf p) }
+  pub running-none : Running p 0 p (replicate 20 0) 0
+  unfolding steps totalTests
+  running-none = record { at = s .is; counted = counts-none (p .n) (s .few) (s .many) (listOf p); tested = refl }
 
-  module _ (done : ℕ) (current : Permutation) (counts : List ℕ) (v : Running p done current counts) where
-    next : successorAnswer current ≡ record { number = 0; place = successor (p .n) (after done) }
+  module _ (done : ℕ) (current : Permutation) (counts : List ℕ) (total : ℕ) (v : Running p done current counts total) where
+    next : successorAnswer current ≡ placedIf 0 (p .n) (after done)
     next = ap successorAnswer (v .at) ∙ placed-record (p .n) (after done) (s .few) (s .many) (orders done)
 
-    module _ (place : ℕ) (q : place ≡ successorAnswer current .place) where
+    module _ (placed : Placed) (q : placed ≡ successorAnswer current) where
+      abbrev place : ℕ
+      place = placed .place
+
       next-place : place ≡ successor (p .n) (after done)
-      next-place = q ∙ ap (λ (a : Placed). a .place) next
+      next-place = ap (λ (a : Placed). a .place) (q ∙ next)
+
+      asked : placed .tests ≡ tests (p .n) (after done)
+      asked = ap (λ (a : Placed). a .tests) (q ∙ next)
 
       -- the record after one more step
       next-record : pushAnswer current place .permutation ≡ recordOf (after (suc done))
@@ -107,11 +116,17 @@ module _ (p : Permutation) (s : Sound p) where
           pub step-tallied : Tallied (p .n) (listOf p) done counts pushed-cell
           step-tallied = tallied (p .n) (s .few) (s .many) (listOf p) done counts (v .counted) (s .permutation) pushed-cell (is ∙ cell)
 
-          pub running-more : Running p (done + 1) current′ (set counts (pushed-cell - 1) (getD counts (pushed-cell - 1) 0 + 1))
-          running-more = rw (add-one done) (record { at = at′; counted = step-tallied .counted })
+          pub running-more :
+              (total′ : ℕ) → total′ ≡ (total + placed .tests) % 2 ^ 64
+              → Running p (done + 1) current′ (set counts (pushed-cell - 1) (getD counts (pushed-cell - 1) 0 + 1)) total′
+          running-more total′ sum = rw (add-one done) (record {
+            at = at′;
+            counted = step-tallied .counted;
+            tested = sum ∙ total-more (p .n) (listOf p) done total (placed .tests) (v .tested) asked;
+          })
 
   -- ---- all k steps were done, and the rank is that of the record
-  module _ (k : ℕ) (current : Permutation) (counts : List ℕ) (v : Running p k current counts) (r : ℕ) (is : r ≡ rankAnswer current .rank) where
+  module _ (k : ℕ) (current : Permutation) (counts : List ℕ) (total : ℕ) (v : Running p k current counts total) (r : ℕ) (is : r ≡ rankAnswer current .rank) where
     rank-is : r ≡ rank (p .n) (after k)
     rank-is =
         is ∙ ap (λ (c : Permutation). rankAnswer c .rank) (v .at)
@@ -120,17 +135,20 @@ module _ (p : Permutation) (s : Sound p) where
     end : listOf current ≡ after k
     end = ap listOf (v .at) ∙ list-record (p .n) (after k) (s .few) (s .many) (orders k)
 
-    pub ran-done : _≡_ {A = Ran} (record { number = 0; permutation = current; rank = r; counts = counts }) (runAnswer p k)
+    pub ran-done : _≡_ {A = Ran} (record { number = 0; permutation = current; rank = r; counts = counts; tests = total }) (runAnswer p k)
     unfolding runAnswer
-    ran-done = rw (s .fault, v .at, rank-is, v .counted)
+    ran-done = rw (s .fault, v .at, rank-is, v .counted, v .tested)
 
     pub run-record : RunOf (p .n) (listOf p) k (listOf current) r (countIn counts)
     run-record =
         run-of (p .n) (s .few) (s .many) (listOf p) (s .permutation) k (listOf current) r (countIn counts)
         end (rank-is ∙ ap (rank (p .n)) (sym end)) (counts-at (p .n) (s .few) (s .many) (listOf p) k counts (v .counted))
 
+    pub run-tests : TestsOf (p .n) (listOf p) k total
+    run-tests = tests-of (p .n) (listOf p) (s .few) (s .many) (s .permutation) k total (v .tested)
+
 -- a record that is no permutation's
 pub ran-refused : (p : Permutation) (k number : ℕ) → number ≡ recordNumber p → (number ≡ 0 → ⊥)
-    → _≡_ {A = Ran} (record { number = number; permutation = record { n = 0; cells = replicate 20 0 }; rank = 0; counts = replicate 20 0 }) (runAnswer p k)
+    → _≡_ {A = Ran} (record { number = number; permutation = record { n = 0; cells = replicate 20 0 }; rank = 0; counts = replicate 20 0; tests = 0 }) (runAnswer p k)
 unfolding runAnswer
 ran-refused p k number e h = rw (← e, ne-eqb number 0 h)

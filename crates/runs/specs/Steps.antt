@@ -1,7 +1,8 @@
 -- A run of steps: its answer, and demand 3 of it. Assumes nothing.
 use mathlib.Core.Path.{_≡_}
+use mathlib.Core.Logic.{_⊎_}
 use mathlib.Core.List.{List, [], map}
-use Prim.Native.Nat.{ℕ, _+_, _-_, _%_, _≤_, _<_}
+use Prim.Native.Nat.{ℕ, _+_, _-_, _%_, _^_, _≤_, _<_}
 use lib.ListN.{getD}
 use Rattle.theory.specs.Lists.{names}
 use Rattle.theory.specs.Factorial.{factorial}
@@ -9,6 +10,7 @@ use Rattle.theory.specs.Permutation.{IsPermutation, row}
 use Rattle.theory.specs.Rank.{rank}
 use Rattle.theory.specs.Zero.{valueFrom}
 use Rattle.theory.specs.Run.{steps, pushCount}
+use Rattle.theory.specs.Deciding.{totalTests, factorialSum}
 use Rattle.permutation.specs.Records.{listOf, recordOf, recordNumber}
 use Rattle.theory.specs.Refusal.{given}
 use Rattle.permutation.specs.declared.answers.Permutation.{Permutation}
@@ -27,6 +29,7 @@ runAnswer p k = record {
   permutation = recordOf (given (recordNumber p) (steps (p .n) k (listOf p)) []);
   rank = given (recordNumber p) (rank (p .n) (steps (p .n) k (listOf p))) 0;
   counts = row (given (recordNumber p) (pushCounts (p .n) k (listOf p)) []);
+  tests = given (recordNumber p) (totalTests (p .n) k (listOf p) % 2 ^ 64) 0;
 }
 
 -- the count of cell c in a list of counts by name
@@ -56,3 +59,11 @@ pub record RunOf (n : ℕ) (xs : List ℕ) (k : ℕ) (ys : List ℕ) (r : ℕ) (
       factorial n ≤ k
       → (steps n (factorial n) xs ≡ xs) × ((c : ℕ) → 1 ≤ c → c ≤ n → pushCount n c (factorial n) xs ≡ factorial (n - 1))
   pub even : (j c d : ℕ) → j ≤ k → 1 ≤ c → c ≤ n → 1 ≤ d → d ≤ n → pushCount n c j xs ≤ pushCount n d j xs + 2
+
+-- document 02, request 9, of n cells and a run of k steps from xs that had these tests, in 64 bits
+pub record TestsOf (n : ℕ) (xs : List ℕ) (k tests : ℕ) : Type 0 where
+  pub total : tests ≡ totalTests n k xs % 2 ^ 64
+  -- within a round, and in any run of fewer than 2^59 steps, they are all of them
+  pub exact : (k ≤ factorial n) ⊎ (k < 2 ^ 59) → tests ≡ totalTests n k xs
+  -- "Summed over a whole round of n! steps from any order, they are the sum of i! for i from 3 to n"
+  pub round : k ≡ factorial n → tests ≡ factorialSum n

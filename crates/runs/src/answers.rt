@@ -8,6 +8,8 @@ pub struct Ran {
     pub rank: u64,
     // how often each cell came to place 1, by cell name
     pub counts: [u64; 20],
+    // how many times "is the largest cell on top" was tested, modulo 2^64
+    pub tests: u64,
 }
 
 // A run on levels.

@@ -18,6 +18,7 @@ pub mod Stepping
 pub mod Ranking
 pub mod Sums
 pub mod Cycle
+pub mod Deciding
 pub mod Zero
 pub mod Extremes
 pub mod Ties

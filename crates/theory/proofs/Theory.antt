@@ -5,6 +5,7 @@ use Rattle.theory.proofs.Factorials.{factorials}
 use Rattle.theory.proofs.Padding.{padding}
 use Rattle.theory.proofs.Ranking.{ranking}
 use Rattle.theory.proofs.Stepping.{stepping}
+use Rattle.theory.proofs.Deciding.{deciding}
 use Rattle.theory.proofs.Zero.{valuing, zeros}
 use Rattle.theory.proofs.Reading.{reading}
 use Rattle.theory.proofs.Rewriting.{rewriting}
@@ -23,6 +24,7 @@ theory = record {
   padding = padding;
   ranking = ranking;
   stepping = stepping;
+  deciding = deciding;
   valuing = valuing;
   zeros = zeros;
   reading = reading;

@@ -1,8 +1,9 @@
 -- What is claimed of the meanings, topic by topic. `specs/Theory` says under which conditions each claim is proved. Assumes nothing.
 use mathlib.Core.Path.{_≡_}
 use mathlib.Core.Bool.{true, false}
+use mathlib.Core.Logic.{_⊎_}
 use mathlib.Core.List.{List, [], _∷_, _++_, reverse, Lexᴰ}
-use Prim.Native.Nat.{ℕ, _+_, _-_, _/_, _%_, _^_, _≤_, _<_}
+use Prim.Native.Nat.{ℕ, suc, _+_, _-_, _/_, _%_, _^_, _≤_, _<_}
 use lib.ListN.{length, getD, take, drop}
 use Rattle.theory.specs.Reasons as reason
 use Rattle.theory.specs.Lists.{without, names, Cells}
@@ -16,6 +17,7 @@ use Rattle.theory.specs.Zero.{valueFrom, permutationFrom, oldZero, newZe
 use Rattle.theory.specs.Levels.{level, highest, lowest, tied, permutationOf, ReadsAs, pushLevel, pushLevels, jump}
 use Rattle.theory.specs.CountUp.{countUp, callNumber, callPushes, callLevels}
 use Rattle.theory.specs.Run.{steps, afterCalls}
+use Rattle.theory.specs.Deciding.{tests, decidingSize, shrunk, totalTests, factorialSum}
 use Rattle.theory.specs.Rewrite.{rewriteCount, rewritePushes}
 use Rattle.theory.specs.Prefix.{IsPrefix, prefixes, prefixAt, prefixNumber, prefixLength, symbolPrefix, symbolOf}
 use Rattle.theory.specs.Store.{restLeads, storeCount, storePushes}
@@ -73,6 +75,31 @@ pub record Stepping (n : ℕ) : Type 0 where
   pub push-permutation : (i : ℕ) (xs : List ℕ) → 1 ≤ i → i ≤ n → IsPermutation n xs → IsPermutation n (push i xs)
   pub step-permutation : (xs : List ℕ) → IsPermutation n xs → IsPermutation n (step n xs)
   pub step-rank : (xs : List ℕ) → IsPermutation n xs → rank n (step n xs) ≡ (rank n xs + 1) % factorial n
+
+-- document 02, request 9, "Which rule chose the step", of n cells
+pub record Deciding (n : ℕ) : Type 0 where
+  pub size : (xs : List ℕ) → (2 ≤ decidingSize n xs) × (decidingSize n xs ≤ n)
+  -- the shrunken group of i cells is the group shrunk n - i times. Down to the deciding one each is a permutation, so that its largest cell is i
+  pub group : (xs : List ℕ) → IsPermutation n xs → (i : ℕ) → decidingSize n xs ≤ i → i ≤ n → IsPermutation i (shrunk (n - i) xs)
+  -- "the first whose largest cell is not on top, or 2"
+  pub passed : (xs : List ℕ) (i : ℕ) → decidingSize n xs < i → i ≤ n → top (shrunk (n - i) xs) ≡ i
+  pub stopped : (xs : List ℕ) → (decidingSize n xs ≡ 2) ⊎ (top (shrunk (n - decidingSize n xs) xs) ≡ decidingSize n xs → ⊥)
+  -- "at which the answer fell": the next step of that group is at its last place. That of each larger one, up to the whole, is its size plus 1 less that of the next smaller one
+  pub answer : (xs : List ℕ) → successor (decidingSize n xs) (shrunk (n - decidingSize n xs) xs) ≡ decidingSize n xs
+  pub larger-answers :
+      (xs : List ℕ) (i : ℕ) → decidingSize n xs ≤ i → i < n → successor (suc i) (shrunk (n - suc i) xs) ≡ suc i + 1 - successor i (shrunk (n - i) xs)
+  -- each group from n cells down to the deciding one is tested, but that of two cells is not: "n = 2 has none"
+  pub none : (xs : List ℕ) → n ≡ 2 → tests n xs ≡ 0
+  pub tested : (xs : List ℕ) → 3 ≤ decidingSize n xs → tests n xs ≡ n + 1 - decidingSize n xs
+  pub tested-all : (xs : List ℕ) → decidingSize n xs ≡ 2 → tests n xs ≡ n - 2
+  -- so the tests tell the size, but for what the last one, of three cells, was answered
+  pub told : (xs : List ℕ) → tests n xs < n - 2 → decidingSize n xs ≡ n + 1 - tests n xs
+  pub told-last : (xs : List ℕ) → tests n xs ≡ n - 2 → decidingSize n xs ≤ 3
+  -- the tests of one step are those on the permutation before it, and each further step adds its own
+  pub total-one : (xs : List ℕ) → totalTests n 1 xs ≡ tests n xs
+  pub total-step : (xs : List ℕ) (k : ℕ) → totalTests n (suc k) xs ≡ totalTests n k xs + totalTests n 1 (steps n k xs)
+  -- "Summed over a whole round of n! steps from any order, they are the sum of i! for i from 3 to n"
+  pub round : (xs : List ℕ) → IsPermutation n xs → totalTests n (factorial n) xs ≡ factorialSum n
 
 -- document 02, request 7: the values of n cells with the zero z. "both are shown for a zero of any order": z is any list
 pub record Valuing (n : ℕ) (z : List ℕ) : Type 0 where

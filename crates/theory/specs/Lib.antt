@@ -13,6 +13,7 @@ pub mod Levels
 pub mod CountUp
 pub mod InTurn
 pub mod Run
+pub mod Deciding
 pub mod Rewrite
 pub mod Prefix
 pub mod Store

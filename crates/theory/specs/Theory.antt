@@ -8,7 +8,7 @@ use Rattle.theory.specs.Factorial.{factorial}
 use Rattle.theory.specs.Permutation.{IsPermutation}
 use Rattle.theory.specs.Levels.{tied}
 use Rattle.theory.specs.Prefix.{IsPrefix}
-use Rattle.theory.specs.Claims.{Reasons, Factorials, Padding, Ranking, Stepping, Valuing, Zeros, Reading, Rewriting, Numbering, Coding, Storing, SymbolStoring, Calling, Spending}
+use Rattle.theory.specs.Claims.{Reasons, Factorials, Padding, Ranking, Stepping, Deciding, Valuing, Zeros, Reading, Rewriting, Numbering, Coding, Storing, SymbolStoring, Calling, Spending}
 use Rattle.theory.specs.Demand3.{Demand3}
 use Rattle.theory.specs.Readings.{Readings}
 use Rattle.theory.specs.Examples.{Examples}
@@ -19,6 +19,7 @@ pub record Theory : Type 0 where
   pub padding : (xs : List ℕ) → length xs ≤ 20 → Padding xs
   pub ranking : (n : ℕ) → Ranking n
   pub stepping : (n : ℕ) → 2 ≤ n → Stepping n
+  pub deciding : (n : ℕ) → 2 ≤ n → Deciding n
   pub valuing : (n : ℕ) (z : List ℕ) → 2 ≤ n → Valuing n z
   pub zeros : (n : ℕ) → 2 ≤ n → Zeros n
   pub reading : (L : List ℕ) → tied L ≡ false → Reading L

@@ -1,8 +1,9 @@
 //! Definitions and claims, over all small groups.
 
 use super::{levels, permutation, permutations, prefixes, pushed};
+use crate::permutations::factorial;
 use crate::symbols::{number_of_prefix, prefix_length, prefix_of_symbol};
-use crate::{count_up, digits, push, push_level, rank, read, read_symbol, rewrite, store, successor, unrank, Reason, Spent};
+use crate::{count_up, digits, push, push_level, rank, read, read_symbol, rewrite, store, successor, unrank, NextStep, Reason, Spent};
 use std::collections::{BTreeMap, VecDeque};
 
 /// n! steps from any start visit the ranks in sequence and return; no push raises a cell by more than n + 1 (document 001, theorem 7).
@@ -16,7 +17,7 @@ fn a_walk_visits_all_ranks_in_sequence() {
             for step in 0..starts.len() as u64 {
                 let here = permutation(&names);
                 assert_eq!(rank(&here).unwrap(), (rank(&permutation(start)).unwrap() + step) % starts.len() as u64);
-                let place = successor(&here).unwrap();
+                let place = successor(&here).unwrap().place;
                 names = pushed(&names, place);
                 assert_eq!(push(&here, place), Ok(permutation(&names)));
                 let cell = usize::from(names[0]) - 1;
@@ -28,6 +29,87 @@ fn a_walk_visits_all_ranks_in_sequence() {
             }
             assert_eq!(&names, start);
             assert_eq!(read(&group), Ok(permutation(start)));
+        }
+    }
+}
+
+/// Document 001's function, line by line; `tests` counts the comparisons of line 4.
+fn successor_of_document_001(a: &[u8], tests: &mut usize) -> usize {
+    let n = a.len();
+    if n == 2 {
+        return 2;
+    }
+    *tests += 1;
+    if usize::from(a[0]) != n {
+        return n;
+    }
+    let reflected: Vec<u8> = (1..n).map(|index| a[n - index]).collect();
+    n - successor_of_document_001(&reflected, tests) + 1
+}
+
+/// Theorem 10: "is a_1 equal to n", then "is a_n equal to n-1". So the tops of the groups, shrinking, are at places 1, n, 2, n-1, ... of the whole one. Where the
+/// answer falls, the lowest cell is pushed, which is the top of the next group.
+fn step_from_both_ends(names: &[u8]) -> NextStep {
+    let n = names.len();
+    let tops: Vec<usize> = (1..=n).flat_map(|place| [place, n + 1 - place]).take(n).collect();
+    let size = (3..=n).rev().find(|&size| usize::from(names[tops[n - size] - 1]) != size).unwrap_or(2);
+    NextStep { place: tops[n - size + 1], tests: (3..=n).filter(|&tested| tested >= size).count(), size }
+}
+
+/// "The tests equal those of document 001's function, so n = 2 has none."
+#[test]
+fn a_step_has_the_tests_of_document_001() {
+    for names in (2..=6).flat_map(permutations) {
+        let step = successor(&permutation(&names)).unwrap();
+        let mut tests = 0;
+        let place = successor_of_document_001(&names, &mut tests);
+        assert_eq!((step.place, step.tests), (place, tests), "{names:?}");
+        assert!(names.len() > 2 || tests == 0);
+    }
+}
+
+/// "The first whose largest cell is not on top, or 2"
+#[test]
+fn the_answer_falls_at_the_first_group_without_its_largest_on_top() {
+    for names in (2..=6).flat_map(permutations) {
+        assert_eq!(successor(&permutation(&names)), Ok(step_from_both_ends(&names)), "{names:?}");
+    }
+}
+
+/// Each size of every group up to twenty cells. A group of that size, whose largest is not on top, or of two, is grown: each next cell comes on top of the others
+/// in reverse.
+#[test]
+fn an_answer_at_each_size() {
+    for (n, size) in (2..=20).flat_map(|n| (2..=n).map(move |size| (n, size))) {
+        let mut names: Vec<u8> = (1..=size as u8).collect();
+        for cell in size as u8 + 1..=n as u8 {
+            names.push(cell);
+            names.reverse();
+        }
+        let step = successor(&permutation(&names)).unwrap();
+        assert_eq!(step, step_from_both_ends(&names));
+        assert_eq!((step.tests, step.size), (if size == 2 { n - 2 } else { n - size + 1 }, size), "{names:?}");
+    }
+}
+
+/// "Summed over a whole round of n! steps from any order, they are the sum of i! for i from 3 to n: 6 for three cells, 30 for four." By theorem 10's proof groups
+/// of i cells are tested i! times.
+#[test]
+fn the_tests_of_a_whole_round() {
+    for (n, total) in (2..).zip([0, 6, 30, 150, 870, 5_910]) {
+        let round = factorial(n);
+        assert_eq!((3..=n).map(factorial).sum::<u64>(), total);
+        for start in (0..round).step_by(1 + round as usize / 50) {
+            let first = unrank(n, start).unwrap();
+            let (mut here, mut tests, mut tested) = (first, 0, vec![0; n + 1]);
+            for _ in 0..round {
+                let step = successor(&here).unwrap();
+                tests += step.tests as u64;
+                tested[step.size.max(3)..].iter_mut().for_each(|times| *times += 1);
+                here = push(&here, step.place).unwrap();
+            }
+            assert_eq!((here, tests), (first, total), "{n} cells from rank {start}");
+            assert!((3..=n).all(|size| tested[size] == factorial(size)), "{tested:?}");
         }
     }
 }
@@ -60,7 +142,7 @@ fn counting_in_calls_is_counting_in_steps() {
         for k in [1, 0, 5, 2 * n as u32, 997] {
             let mut spent = Spent::default();
             for _ in 0..k {
-                let place = successor(&read(&stepped).unwrap()).unwrap();
+                let place = successor(&read(&stepped).unwrap()).unwrap().place;
                 let step = push_level(&mut stepped, place).unwrap();
                 spent = Spent { pushes: spent.pushes + step.pushes, charge: spent.charge + step.charge };
             }

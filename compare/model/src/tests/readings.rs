@@ -1,8 +1,8 @@
-//! The bench readings of document 01, one table per kind, and the example of document 02's request 1.
+//! The bench readings of document 01, one table per kind, and the examples of document 02's requests 1 and 9.
 
 use super::{levels, permutation};
 use crate::symbols::{number_of_prefix, prefix_length};
-use crate::{count_up, digits, push, rank, read, rewrite, store, successor, unrank, Reason, Spent};
+use crate::{count_up, digits, push, rank, read, rewrite, store, successor, unrank, NextStep, Reason, Spent};
 
 const RANKS: [(&[u8], u64); 15] = [
     (&[1, 2], 0),
@@ -47,9 +47,31 @@ fn ranks() {
 #[test]
 fn steps() {
     for (names, expected, next) in STEPS {
-        let place = successor(&permutation(names)).unwrap();
+        let place = successor(&permutation(names)).unwrap().place;
         assert!(expected == 0 || place == expected, "{names:?} {place}");
         assert_eq!(push(&permutation(names), place), Ok(permutation(next)));
+    }
+}
+
+/// Document 02, request 9: how these steps are chosen, and those of two cells. Each row is a permutation, the place, the tests and the size. Those of three cells
+/// are a whole round, of 6 tests.
+#[test]
+fn how_steps_are_chosen() {
+    let table: [(&[u8], usize, usize, usize); 11] = [
+        (&[1, 2], 2, 0, 2),
+        (&[2, 1], 2, 0, 2),
+        (&[1, 3, 2], 3, 1, 3),
+        (&[2, 1, 3], 3, 1, 3),
+        (&[3, 2, 1], 2, 1, 2),
+        (&[2, 3, 1], 3, 1, 3),
+        (&[1, 2, 3], 3, 1, 3),
+        (&[3, 1, 2], 2, 1, 2),
+        (&[4, 2, 3, 1], 2, 2, 3),
+        (&[4, 1, 2, 3], 3, 2, 2),
+        (&[4, 2, 1, 3], 3, 2, 2),
+    ];
+    for (names, place, tests, size) in table {
+        assert_eq!(successor(&permutation(names)), Ok(NextStep { place, tests, size }), "{names:?}");
     }
 }
 

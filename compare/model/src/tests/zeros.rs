@@ -48,7 +48,7 @@ fn the_zero_orders() {
 
 /// The order after one step.
 fn stepped(names: &[u8]) -> Vec<u8> {
-    pushed(names, successor(&permutation(names)).unwrap())
+    pushed(names, successor(&permutation(names)).unwrap().place)
 }
 
 /// "Any k steps add k to the value modulo n!, and each value from 0 to n! - 1 belongs to exactly one order of n cells; both are shown for a zero of any order."

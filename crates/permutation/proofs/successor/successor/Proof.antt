@@ -15,12 +15,12 @@ returns c = rw (← check-number _ (c .before .check .ensures), ne-eqb _ _ (c .i
 sound-now : (c : tie.Else1) → Sound (c .before .before .args .permutation)
 sound-now c = check-sound _ (c .before .check .ensures) (search needs) (c .if1 .left)
 
-next-place-requires : tie.Need-next-place-requires
-next-place-requires c κs = (sound-now (c .before .before) .many, search needs)
+decide-requires : tie.Need-decide-requires
+decide-requires c κs = (sound-now (c .before .before) .many, search needs)
 
 returns-2 : tie.Need-returns-2
 unfolding successorAnswer
-returns-2 c = rw (sound-now (c .before .before .before) .fault, c .next-place .ensures)
+returns-2 c = rw (sound-now (c .before .before .before) .fault) (c .decide .ensures)
 
 pub successor-spec : {M : Type 1} → statement M
-successor-spec = tie.close (tie.spec (λ c κs. tt) returns next-place-requires returns-2)
+successor-spec = tie.close (tie.spec (λ c κs. tt) returns decide-requires returns-2)

@@ -1,4 +1,4 @@
--- `runs::steps::run_steps` meets its contract. The loop's invariant: the record and the counts are those of the steps done. Assumes nothing.
+-- `runs::steps::run_steps` meets its contract. The loop's invariant: the record, the counts and the tests are those of the steps done. Assumes nothing.
 use mathlib.Core.Path.{_≡_, sym, ap, subst, _∙_}
 use Prim.Native.Nat.{ℕ, _-_, _≤_}
 use native.Mathlib.Omega.{arith}
@@ -9,16 +9,16 @@ use Rattle.permutation.specs.declared.answers.Placed.{Placed}
 use Rattle.ranking.specs.declared.answers.Ranked.{Ranked}
 use Rattle.permutation.proofs.Records.{Sound, sound}
 use Rattle.runs.proofs.PushCounts.{Tallied}
-use Rattle.runs.proofs.Running.{Running, running-none, step-tallied, running-more, ran-done, run-record, ran-refused}
+use Rattle.runs.proofs.Running.{Running, running-none, step-tallied, running-more, ran-done, run-record, run-tests, ran-refused}
 use borrow.Author.Needs.{needs}
 use Rattle.runs.proofs.steps.run_steps.Statement.{statement}
 use Rattle.runs.proofs.steps.run_steps.Tie as tie
 
 abbrev Inv-loop : tie.InvT-loop
-Inv-loop k number counts₀ current₀ done₀ counts current done = (done ≤ k) × Sound current₀ × Running current₀ done current counts
+Inv-loop k number counts₀ current₀ tests₀ done₀ counts current tests done = (done ≤ k) × Sound current₀ × Running current₀ done current counts tests
 
 abbrev μ-loop : tie.MeasureT-loop
-μ-loop k number counts₀ current₀ done₀ counts current done = k - done
+μ-loop k number counts₀ current₀ tests₀ done₀ counts current tests done = k - done
 
 first-requires : tie.Need-successor-requires Inv-loop μ-loop
 first-requires c κs = search needs
@@ -31,7 +31,7 @@ number-is c = ap (λ (a : Placed). a .number) (c .successor .ensures)
 returns : tie.Need-returns Inv-loop μ-loop
 returns c = (
   ran-refused (c .before .before .args .permutation) (c .before .before .args .k) _ (number-is (c .before)) (c .if1 .taken),
-  λ z. absurd (c .if1 .taken z),
+  (λ z. absurd (c .if1 .taken z), λ z. absurd (c .if1 .taken z)),
 )
 
 loop-holds : tie.Need-loop-holds Inv-loop μ-loop
@@ -55,9 +55,9 @@ counted : (c : tie.After-wide Inv-loop μ-loop)
     Tallied (p .n) (listOf p) (looped c .loop .done) (looped c .loop .counts) (c .wide .result)
 counted c =
     let l = looped c .loop in
-    step-tallied (looped c .before .before .before .args .permutation) (l .inv .1) (l .done) (l .current) (l .counts) (l .inv .2) _
-    (ap (λ (a : Placed). a .place) (c .before .before .before .before .successor2 .ensures)) _
-    (ap (λ (a : Permuted). a .permutation) (c .before .before .before .push .ensures)) _ (c .wide .ensures)
+    step-tallied (looped c .before .before .before .args .permutation) (l .inv .1) (l .done) (l .current) (l .counts) (l .tests) (l .inv .2)
+    _ (c .before .before .before .before .successor2 .ensures)
+    _ (ap (λ (a : Permuted). a .permutation) (c .before .before .before .push .ensures)) _ (c .wide .ensures)
 
 in-row : (c : tie.After-wide Inv-loop μ-loop) → (1 ≤ c .wide .result) × (c .wide .result ≤ 20)
 in-row c = (counted c .low, omega (arith, counted c .high, looped c .loop .inv .1 .many))
@@ -85,12 +85,13 @@ loop-less c = search needs
 
 loop-again : tie.Need-loop-again Inv-loop μ-loop
 loop-again c =
-    let l = looped c .loop in (
+    let turn = c .before in let l = looped turn .loop in (
       omega arith,
       l .inv .1,
-      running-more (looped c .before .before .before .args .permutation) (l .inv .1) (l .done) (l .current) (l .counts) (l .inv .2) _
-          (ap (λ (a : Placed). a .place) (c .before .before .before .before .successor2 .ensures)) _
-          (ap (λ (a : Permuted). a .permutation) (c .before .before .before .push .ensures)) _ (c .wide .ensures),
+      running-more (looped turn .before .before .before .args .permutation) (l .inv .1) (l .done) (l .current) (l .counts) (l .tests) (l .inv .2)
+          _ (turn .before .before .before .before .successor2 .ensures)
+          _ (ap (λ (a : Permuted). a .permutation) (turn .before .before .before .push .ensures)) _ (turn .wide .ensures)
+          _ (c .wrapping-add-u64 .ensures),
     )
 
 returns-2 : tie.Need-returns-2 Inv-loop μ-loop
@@ -100,8 +101,8 @@ returns-2 c =
     let p = at .before .before .before .args .permutation in
     let s = at .loop .inv .1 in
     let done : at .loop .done ≡ at .before .before .before .args .k = omega arith in
-    let v = subst (λ (j : ℕ). Running p j (at .loop .current) (at .loop .counts)) done (at .loop .inv .2) in
-    (ran-done p s _ _ _ v _ is, λ z. run-record p s _ _ _ v _ is)
+    let v = subst (λ (j : ℕ). Running p j (at .loop .current) (at .loop .counts) (at .loop .tests)) done (at .loop .inv .2) in
+    (ran-done p s _ _ _ _ v _ is, (λ z. run-record p s _ _ _ _ v _ is, λ z. run-tests p s _ _ _ _ v _ is))
 
 pub run-steps-spec : {M : Type 1} → statement M
 run-steps-spec =
@@ -121,6 +122,7 @@ run-steps-spec =
     array-read-counts
     add-counts
     array-write-counts
+    (λ c κs. tt)
     add-done
     loop-less
     loop-again
