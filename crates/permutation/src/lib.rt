@@ -4,5 +4,5 @@ pub mod cell; // a byte of a row as a wider number
 pub mod insert; // a cell put in among others
 pub mod push; // push to the top
 pub mod reasons; // why a job is refused
-pub mod successor; // the place that the next step pushes
+pub mod successor; // the place that the next step pushes, and what decided it
 pub mod validity; // is a record a permutation, and each cell's spot

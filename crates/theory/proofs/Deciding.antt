@@ -1,4 +1,4 @@
--- What chose a step: its tests and its deciding size, by cases, and the tests of a whole round. Assumes nothing.
+-- What decided a step: its tests and its deciding size, by cases, and the tests of a whole round. Assumes nothing.
 use mathlib.Core.Path.{_≡_, refl, sym, ap, _∙_, subst}
 use mathlib.Core.Bool.{cond}
 use mathlib.Core.Logic.{_⊎_, inl, inr}
