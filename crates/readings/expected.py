@@ -171,6 +171,9 @@ ROUNDS = {2: 0, 3: 6, 4: 30, 5: 150, 6: 870, 7: 5910}
 # b3 is still 16, its last, and b4 is not
 RUNS = {"run_steps 0 of 4 | 1 4 2 3": 0, "run_steps 10 of 4 | 1 4 2 3": 12, "run_steps 1 of 2 | 2 1": 0, f"run_steps 1 of 20 | {NAMES}": 1,
         f"run_steps 1000 of 20 | {NAMES}": 1000 + 50 + 3 + 1 + 1, "run_steps 0 of 1 | 1": 0, "run_steps 1 of 1 | 1": 0, "run_steps 1 of 4 | 1 2 2 4": 0}
+# .. request 10, by hand: n!/(n-i)! of 1, 4 and 6 cells, as far as they are not 0; and of document 01's [2,5,4,3,6,1] each digit times its weight
+WEIGHTS = {1: [1, 1], 4: [1, 4, 12, 24, 24], 6: [1, 6, 30, 120, 360, 720, 720]}
+TERMS = {(2, 5, 4, 3, 6, 1): [3 * 1, 1 * 6, 3 * 30, 1 * 120, 0 * 360, 0 * 720]}
 
 # Document 001. The text at hand has no pictures: of Example 1 it has the places, of Example 9 and Fig. 2 what is said of them, of the levels in Fig. 3 no numbers.
 EXAMPLE_1 = [2, 3, 3, 2, 3, 3]
@@ -535,6 +538,21 @@ def check_tests(lines):
             assert tests_by_rank(n, rank(order), factorial(n)) == sum(factorial(i) for i in range(3, n + 1))
 
 
+def check_weights(lines):
+    # "The 420 weights, for n from 1 to 20 in 21 places each, with 0 past i = n", three rows of them by hand
+    table = [[weight(n, i) for i in range(21)] for n in range(1, 21)]
+    assert all(table[n - 1] == row + [0] * (21 - len(row)) for n, row in WEIGHTS.items()) and sum(map(len, table)) == 420
+    # "it must give the same rank for all orders"
+    for order, terms in TERMS.items():
+        assert rank_by_weights([*order]) == sum(terms) == rank([*order]) and on("rank", order) in lines
+    for n in range(1, 8):
+        assert all(rank_by_weights([*order]) == rank([*order]) for order in permutations(range(1, n + 1)))
+    # where every digit is its largest, in the last order, every weight counts that a rank can have: the last digit is always 0
+    for n in range(2, 21):
+        last = unrank(n, factorial(n) - 1)
+        assert digits(last) == [*range(n - 1, -1, -1)] and rank_by_weights(last) == factorial(n) - 1 and on("rank", last) in lines
+
+
 text = Path(__file__).with_name("stdin").read_text()
 assert len(text) <= 65536, "what the program reads"
 lines = text.splitlines()
@@ -550,5 +568,6 @@ check_bands({*lines})
 check_reach({*lines})
 check_zeros({*lines})
 check_tests({*lines})
+check_weights({*lines})
 for line in lines:
     print(answer(line))

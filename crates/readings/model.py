@@ -1,6 +1,6 @@
 """A model of document 01's rules on lists, as the paper words them, with the storing rule of document 02's request 1 in place of its own, the writing of request 2,
-the charge of request 3, the bands of request 4, the listing of request 6, the zeros of request 7, the change of request 8 and the tests of request 9; nothing of
-the code. `expected.py` checks it against what documents 01, 02 and 001 print; the sheets of `sheets` are worked and written by it too."""
+the charge of request 3, the bands of request 4, the listing of request 6, the zeros of request 7, the change of request 8, the tests of request 9 and the weights
+of request 10; nothing of the code. `expected.py` checks it against what documents 01, 02 and 001 print; the sheets of `sheets` are worked and written by it too."""
 from itertools import chain, product, repeat
 from math import factorial, perm, prod
 
@@ -54,6 +54,16 @@ def digits(order):
 
 def rank(order):
     return digit(order) + len(order) * rank(remaining(order)) if len(order) > 1 else 0
+
+
+def weight(n, i):
+    """Document 02, request 10: n!/(n-i)!, "with 0 past i = n"."""
+    return factorial(n) // factorial(n - i) if i <= n else 0
+
+
+def rank_by_weights(order):
+    """"the sum of digit bi times n!/(n-i)!, lowest digit first\""""
+    return sum(b * weight(len(order), i) for i, b in enumerate(digits(order)))
 
 
 def unrank(n, r):

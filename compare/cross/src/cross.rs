@@ -106,7 +106,9 @@ impl Cross {
 
     pub fn rank(&mut self, record: Permutation) {
         let answer = raw::rank(record);
-        self.agree(&("rank", record), model::rank(&twin(record)), (answer.number, answer.rank), turretmedlar::rank(record));
+        let expected = model::rank(&twin(record));
+        assert_eq!(model::rank_by_weights(&twin(record)), expected, "{record:?}");
+        self.agree(&("rank", record), expected, (answer.number, answer.rank), turretmedlar::rank(record));
     }
 
     pub fn unrank(&mut self, n: usize, rank: u64) {

@@ -1,7 +1,7 @@
 //! Jobs on permutations: push, successor, digits, rank and unrank, and damaged records in every job that takes one.
-use cross::cases::{factorial, pairs, permutations, places, record, WRONG_SIZES};
+use cross::cases::{factorial, falling, pairs, permutations, places, record, WRONG_SIZES};
 use cross::{Cross, Random};
-use turretmedlar::{push, raw, successor, NextStep, Permutation};
+use turretmedlar::{digits, push, rank, raw, successor, unrank, NextStep, Permutation};
 
 #[test]
 fn every_permutation_to_six_at_every_place() {
@@ -50,6 +50,25 @@ fn ranks_of_wrong_sizes() {
         [0, 1, 2, factorial(20), u64::MAX].into_iter().for_each(|rank| cross.unrank(n, rank));
     }
     cross.met(&[1]);
+}
+
+/// Document 02, request 10: each weight that a rank can have, of each size, by itself, where one digit is not 0, and all of them, where every digit is its largest.
+/// The last digit is always 0.
+#[test]
+fn each_weight_by_itself_and_all() {
+    let mut cross = Cross::default();
+    for n in 2..=20 {
+        for (i, digit) in (0..n - 1).flat_map(|i| (1..n - i).map(move |digit| (i, digit))) {
+            let expected = digit as u64 * falling(n, i);
+            let permutation = unrank(n, expected).expect("a rank");
+            let mut row = [0; 20];
+            row[i] = digit as u8;
+            assert_eq!((digits(permutation), rank(permutation)), (Ok(row), Ok(expected)), "{permutation:?}");
+            cross.rank(permutation);
+        }
+        cross.rank(unrank(n, factorial(n) - 1).expect("a rank"));
+    }
+    cross.met(&[0]);
 }
 
 #[test]

@@ -134,6 +134,21 @@ pub(crate) fn factorial(n: usize) -> u64 {
     (1..=n as u64).product()
 }
 
+/// Document 02, request 10: n!/(n-i)!, "for n from 1 to 20 in 21 places each, with 0 past i = n"
+pub(crate) fn weight(n: usize, i: usize) -> u64 {
+    if i <= n {
+        factorial(n) / factorial(n - i)
+    } else {
+        0
+    }
+}
+
+/// "The sum of digit bi times n!/(n-i)!, lowest digit first"
+pub fn rank_by_weights(permutation: &Permutation) -> Result<u64, Reason> {
+    let digits = digits_of_names(permutation.names()?);
+    Ok((0..).zip(digits).map(|(i, digit)| u64::from(digit) * weight(permutation.n, i)).sum())
+}
+
 /// The order of a rank: "The rank rule decides." The digits are split off the rank, then cells 1, 2, ..., n are
 /// put back, each at the place its digit tells, with both sides reflected back.
 pub fn unrank(n: usize, rank: u64) -> Result<Permutation, Reason> {

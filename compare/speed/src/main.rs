@@ -1,7 +1,11 @@
-//! Turretmedlar's jobs through its static library beside the plain Rust model: times and instructions of a call, as one table.
+//! Turretmedlar's jobs through its static library beside the plain Rust model: times and instructions of a call, as one table; and ranks beside programs that work
+//! out nothing else.
 mod benchmarks;
+mod by_mask;
 mod counting;
 mod pair;
+mod plain;
+mod ranks;
 mod stack;
 mod table;
 mod timing;
@@ -18,10 +22,12 @@ fn main() {
             let mut pair = (benchmarks::benchmarks()[number(index)].build)();
             pair.run(SIDES[number(side)], number(passes));
         }
+        [ranks::RANKS] => ranks::print(),
+        [ranks::RANKS, index, passes] => ranks::run(number(index), number(passes)),
         [stack::STACK] => stack::print(),
         [stack::STACK, index, size] => stack::run(number(index), number(size)),
         _ => {
-            eprintln!("usage: bench [stack]");
+            eprintln!("usage: bench [ranks | stack]");
             std::process::exit(2);
         }
     }

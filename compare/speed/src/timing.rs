@@ -39,7 +39,7 @@ fn rounds(pair: &mut dyn Pair, passes: usize, found: &mut [Vec<f64>; 2]) {
     }
 }
 
-fn times(mut rounds: Vec<f64>) -> Times {
+pub fn times(mut rounds: Vec<f64>) -> Times {
     rounds.sort_by(f64::total_cmp);
     Times { best: rounds[0], median: rounds[rounds.len() / 2] }
 }

@@ -19,7 +19,7 @@ use Rattle.permutation.specs.Spots.{spot, spotRow, HasSpots}
 
 pub spot-row-at : (xs : List ℕ) (c : ℕ) → c ≤ 20 → getD (spotRow xs) c 0 ≡ cond (member c xs) (spot c xs) 20
 unfolding spotRow
-spot-row-at xs c h = names-map-at (λ c. cond (member c xs) (spot c xs) 20) 0 21 c c (omega arith) (omega arith)
+spot-row-at xs c h = names-map-at 0 (λ c. cond (member c xs) (spot c xs) 20) 0 21 c c (omega arith) (omega arith)
 
 pub spot-row-length : (xs : List ℕ) → length (spotRow xs) ≡ 21
 unfolding spotRow

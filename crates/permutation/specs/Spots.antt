@@ -21,20 +21,20 @@ spot c (x ∷ xs) = cond (eqb x c) 0 (cond (ltb x c) 1 0 + spot c xs)
 unfoldable pub spotRow : List ℕ → List ℕ
 spotRow xs = map (λ c. cond (member c xs) (spot c xs) 20) (namesFrom 0 21)
 
--- what a check answers: the row of spots where the number says done, and zeros beside any other
-abbrev pub spotsIf : ℕ → List ℕ → Checked
-spotsIf number xs = record { number = number; spots = given number (spotRow xs) (replicate 21 0) }
+-- what a check that left these spots answers: the spots where the number says done, and zeros beside any other
+abbrev pub leaving : ℕ → List ℕ → Checked
+leaving number spots = record { number = number; spots = given number spots (replicate 21 0) }
 
 abbrev pub withoutSpots : ℕ → Checked
 withoutSpots number = record { number = number; spots = replicate 21 0 }
 
 -- the pass over xs: is each of 1 to n once among them?
 unfoldable pub spotted : ℕ → List ℕ → Checked
-spotted n xs = spotsIf (cond (onceEach n xs) done muddle) xs
+spotted n xs = leaving (cond (onceEach n xs) done muddle) (spotRow xs)
 
 -- the check of a record: why it is refused, or the spots of its list
 unfoldable pub checked : Permutation → Checked
-checked p = spotsIf (recordNumber p) (listOf p)
+checked p = leaving (recordNumber p) (spotRow (listOf p))
 
 -- the spots of 1 to n
 pub record HasSpots (xs : List ℕ) (n : ℕ) (spots : List ℕ) : Type 0 where

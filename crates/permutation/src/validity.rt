@@ -4,7 +4,7 @@ ghost use Prim.Native.Nat.{_%_, _^_, _≤_};
 ghost use lib.ListN.{length, take, drop};
 ghost use lib.Count.{ones};
 ghost use Rattle.permutation.specs.Records.{allZero};
-ghost use Rattle.permutation.specs.Spots.{withoutSpots, spotted, checked};
+ghost use Rattle.permutation.specs.Spots.{withoutSpots, leaving, spotted, checked};
 use super::answers::Permutation;
 use super::cell::wide;
 use super::reasons::MUDDLE;
@@ -54,45 +54,57 @@ fn ones_below(seen: u32, c: usize) -> u8
     u32::count_ones(seen % bit(c)) as u8
 }
 
-// Does each of 1 to n stand once in the first n places? MUDDLE, or 0 and the spots.
-fn spots_of(cells: &[u8; 20], n: usize) -> Checked
+// Does each of 1 to n stand once in the first n places? MUDDLE, or 0 and the lent spots.
+fn spots_into(cells: &[u8; 20], n: usize, spots: &mut [u8; 21]) -> u8
     requires { ⌜ (n ≤ 20) × (length (now cells) ≡ 20) ⌝ }
-    ensures { λ r. ⌜ r ≡ spotted n (take n (now (cells .entry))) ⌝ }
+    ensures { λ r. ⌜ leaving r (now (spots .exit)) ≡ spotted n (take n (now (cells .entry))) ⌝ }
 {
     // 20 is no spot: a name not met yet
-    let mut spots = [20u8; 21];
+    *spots = [20u8; 21];
     // a mask of the names met
     let mut seen: u32 = 0;
     let mut i: usize = 0;
     while i < n {
         let c = wide(cells[i]);
         if c == 0 {
-            return without_spots(MUDDLE);
+            return MUDDLE;
         }
         if n < c {
-            return without_spots(MUDDLE);
+            return MUDDLE;
         }
         if spots[c] != 20 {
-            return without_spots(MUDDLE);
+            return MUDDLE;
         }
         spots[c] = ones_below(seen, c);
         seen += bit(c);
         i += 1;
     }
-    Checked { number: 0, spots }
+    0
+}
+
+// The check with the spots lent: a copy of a row that was just written byte by byte waits for its bytes. Beside a refusal nothing is said of them. For other crates.
+pub fn check_into(permutation: Permutation, spots: &mut [u8; 21]) -> u8
+    ensures { λ r. ⌜ leaving r (now (spots .exit)) ≡ checked permutation ⌝ }
+{
+    let cells = permutation.cells;
+    let n = size_within(permutation.n);
+    if n == 0 {
+        return SIZE;
+    }
+    if all_zero(&cells, n) {
+        return spots_into(&cells, n, spots);
+    }
+    MUDDLE
 }
 
 // For other crates too.
 pub fn check(permutation: Permutation) -> Checked
     ensures { λ r. ⌜ r ≡ checked permutation ⌝ }
 {
-    let cells = permutation.cells;
-    let n = size_within(permutation.n);
-    if n == 0 {
-        return without_spots(SIZE);
+    let mut spots = [0u8; 21];
+    let number = check_into(permutation, &mut spots);
+    if number != 0 {
+        return without_spots(number);
     }
-    if all_zero(&cells, n) {
-        return spots_of(&cells, n);
-    }
-    without_spots(MUDDLE)
+    Checked { number: 0, spots }
 }

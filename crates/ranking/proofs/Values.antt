@@ -1,17 +1,17 @@
--- The value of a row of digits, the last digit first: what holds when m digits were read. Then the rank and the value of a record. Assumes nothing.
-use mathlib.Core.Path.{_≡_, sym, ap, ap₂, _∙_}
-use mathlib.Core.List.{List, _∷_}
+-- A row of digits by weights, the lowest digit first: what holds when i digits were read. Then the rank and the value of a record. Assumes nothing.
+use mathlib.Core.Path.{_≡_, refl, sym, ap, ap₂, _∙_}
+use mathlib.Core.List.{List}
 use Prim.Native.Nat.{ℕ, suc, _+_, _-_, _*_, _^_, _≤_, _<_}
-use native.Mathlib.Nat.{mul-le-mul-left}
 use native.Mathlib.Omega.{arith}
-use lib.ListN.{length, getD, take, drop, drop-of-length-le}
-use lib.Seq.{drop-cons, length-take-le, getD-take}
-use Rattle.theory.specs.Factorial.{factorial}
+use lib.ListN.{getD, take}
+use lib.Seq.{getD-take}
+use Rattle.theory.specs.Factorial.{falling}
 use Rattle.theory.specs.Permutation.{IsPermutation, row}
-use Rattle.theory.specs.Rank.{rank, digits, digitValue}
+use Rattle.theory.specs.Rank.{rank, digits, digitValue, weightedSum}
 use Rattle.theory.specs.Claims.{Padding}
-use Rattle.theory.proofs.Factorials.{factorials}
+use Rattle.theory.proofs.Factorials.{factorials, falling-quotient}
 use Rattle.theory.proofs.Padding.{padding}
+use Rattle.theory.proofs.Weights.{weighted-value, weighted-below}
 use Rattle.theory.proofs.Ranking.{digits-long, digits-rank, ranking}
 use Rattle.permutation.specs.Records.{recordOf}
 use Rattle.permutation.proofs.Records.{fault-record}
@@ -21,49 +21,34 @@ use Rattle.ranking.specs.Zeros.{valueOn}
 use Rattle.ranking.specs.declared.zero.Zero.{Zero}
 use Rattle.ranking.specs.BySpots.{Bounded}
 
-pub record RowValued (row : List ℕ) (n m value : ℕ) : Type 0 where
-  pub within : m ≤ n
-  pub is : value ≡ digitValue m (drop (n - m) (take n row))
-  pub below : value < factorial m
+-- the first i digits by weights
+pub record Summed (row : List ℕ) (n i sum : ℕ) : Type 0 where
+  pub within : i ≤ n
+  pub is : sum ≡ weightedSum n i row
+  pub below : sum < falling n i
 
-module _ (row : List ℕ) (n : ℕ) (room : n ≤ length row) where
-  long : length (take n row) ≡ n
-  long = length-take-le n row room
+module _ (row : List ℕ) (n : ℕ) where
+  pub summed-none : Summed row n 0 0
+  unfolding weightedSum
+  summed-none = record { within = omega arith; is = refl; below = omega arith }
 
-  pub valued-none : RowValued row n 0 0
-  unfolding digitValue
-  valued-none = record {
-    within = omega arith;
-    is = ap (digitValue 0) (sym (drop-of-length-le (take n row) {i = n - 0} (omega (arith, long))));
-    below = omega arith;
-  }
+  module _ {i sum d w : ℕ} (v : Summed row n i sum) (more : i < n) (is-d : d ≡ getD row i 0) (small : d < n - i) (is-w : w ≡ falling n i) where
+    next-below : sum + d * w < falling n (suc i)
+    next-below = rw is-w (weighted-below n i (v .below) small)
 
-  module _ (m value d : ℕ) (v : RowValued row n m value) (more : m < n) (is-d : d ≡ getD row (n - 1 - m) 0) (small : d < suc m) where
-    next-digit : drop (n - suc m) (take n row) ≡ d ∷ drop (n - m) (take n row)
-    next-digit =
-        let i : n - suc m ≡ n - 1 - m = omega arith in
-        let j : suc (n - suc m) ≡ n - m = omega arith in
-        drop-cons (take n row) (n - suc m) 0 (omega (arith, long))
-        ∙ ap₂ (λ (x : ℕ) (l : List ℕ). x ∷ l) (getD-take n row (n - suc m) 0 (omega arith) ∙ ap (λ (k : ℕ). getD row k 0) i ∙ sym is-d)
-        (ap (λ (k : ℕ). drop k (take n row)) j)
-
-    next-below : d + suc m * value < factorial (suc m)
-    next-below = omega (arith, mul-le-mul-left (suc m) (v .below))
-
-    pub valued-more : RowValued row n (suc m) (d + suc m * value)
-    unfolding digitValue
-    valued-more = record {
+    pub summed-more : Summed row n (suc i) (sum + d * w)
+    unfolding weightedSum
+    summed-more = record {
       within = more;
-      is = let e : suc m - 1 ≡ m = omega arith in rw (next-digit, e) (ap (λ (k : ℕ). d + suc m * k) (v .is));
+      is = ap₂ (λ (s t : ℕ). s + t) (v .is) (ap₂ (λ (x y : ℕ). x * y) is-d (is-w ∙ falling-quotient n i (v .within)));
       below = next-below;
     }
 
-    pub valued-fits : n ≤ 20 → d + suc m * value < 2 ^ 64
-    valued-fits few = omega (arith, next-below, factorials .fits (suc m) (omega arith))
+    pub summed-fits : n ≤ 20 → sum + d * w < 2 ^ 64
+    summed-fits few = omega (arith, next-below, falling-quotient n (suc i) more, factorials .quotient-fits n (suc i) few)
 
-  pub valued-all : (m value : ℕ) → m ≡ n → RowValued row n m value → value ≡ digitValue n (take n row)
-  valued-all m value e v =
-      let z : n - m ≡ 0 = omega arith in v .is ∙ ap₂ (λ (k j : ℕ). digitValue k (drop j (take n row))) e z
+  pub summed-all : {i sum : ℕ} → i ≡ n → Summed row n i sum → sum ≡ weightedSum n n row
+  summed-all e v = v .is ∙ ap (λ (k : ℕ). weightedSum n k row) e
 
 -- ---- the row of a permutation's digits
 module _ (n : ℕ) (xs : List ℕ) (few : n ≤ 20) where
@@ -80,8 +65,9 @@ module _ (n : ℕ) (xs : List ℕ) (few : n ≤ 20) where
       small i h =
           rw (← getD-take n (row (digits n xs)) i 0 h, first) (ranking n .digits-range xs i h)
 
-  pub row-rank : digitValue n (take n (row (digits n xs))) ≡ rank n xs
-  row-rank = ap (digitValue n) first ∙ digits-rank n xs
+  pub row-rank : weightedSum n n (row (digits n xs)) ≡ rank n xs
+  row-rank =
+      weighted-value n n (row (digits n xs)) (omega arith) (omega (arith, padded .long)) ∙ ap (digitValue n) first ∙ digits-rank n xs
 
 -- the rank and the value of the record of a permutation
 module _ (n : ℕ) (xs : List ℕ) (few : 2 ≤ n) (many : n ≤ 20) (o : IsPermutation n xs) where

@@ -2,4 +2,5 @@
 pub mod Zeros
 pub mod Answers
 pub mod Factorials
+pub mod Weights
 pub mod BySpots

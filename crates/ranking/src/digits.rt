@@ -9,7 +9,7 @@ ghost use Rattle.ranking.specs.BySpots.{Low, passed, readInto};
 use super::answers::Digits;
 use permutation::answers::Permutation;
 use permutation::cell::wide;
-use permutation::validity::check;
+use permutation::validity::check_into;
 
 // The digit of cell m, of m cells, that is met past `passed` others: its place less 2, modulo m. At every place but 1 the place less 2 is the digit itself, so that
 // one comparison is enough, and no division, the controller's slowest instruction, is needed.
@@ -67,14 +67,13 @@ fn read_up(spots: &[u8; 21], n: usize, s: usize, m: usize, row: &mut [u8; 20])
 pub fn digits(permutation: Permutation) -> Digits
     ensures { λ r. ⌜ r ≡ digitsAnswer permutation ⌝ }
 {
-    let checked = check(permutation);
-    let number = checked.number;
+    let mut spots = [0u8; 21];
+    let number = check_into(permutation, &mut spots);
     let mut row = [0u8; 20];
     if number != 0 {
         return Digits { number, row };
     }
     let n = permutation.n;
-    let spots = checked.spots;
     read_down(&spots, n, 0, n, &mut row);
     Digits { number: 0, row }
 }

@@ -7,4 +7,5 @@ pub mod permutation_of_value; // the permutation of a value
 pub mod rank; // the rank
 pub mod unrank; // the permutation of a rank
 pub mod value; // the value
+mod weights; // the table of weights
 pub mod zero; // the zero that a group counts from, and its rank

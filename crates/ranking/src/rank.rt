@@ -1,25 +1,26 @@
 // The rank: the number that the digits stand for.
 ghost use mathlib.Core.Path.{_≡_};
-ghost use lib.ListN.{take};
+ghost use Prim.Native.Nat.{_≤_};
 ghost use Rattle.theory.specs.Rank as meaning;
 ghost use Rattle.ranking.specs.Answers.{rankAnswer};
 ghost use Rattle.ranking.specs.BySpots.{Bounded};
 use super::answers::Ranked;
 use super::digits::digits;
+use super::weights::weight_row;
 use permutation::answers::Permutation;
 use permutation::cell::wide_digit;
 
-// By value: a row of digits goes in. A nested product, the last digit first.
+// By value: a row of digits goes in. The lowest digit first, each times its weight.
 fn row_value(row: [u8; 20], n: usize) -> u64
-    requires { ⌜ Bounded row n ⌝ }
-    ensures { λ r. ⌜ r ≡ meaning.digitValue n (take n row) ⌝ }
+    requires { ⌜ (1 ≤ n) × Bounded row n ⌝ }
+    ensures { λ r. ⌜ r ≡ meaning.weightedSum n n row ⌝ }
 {
+    let weights = weight_row(n);
     let mut rank: u64 = 0;
-    let mut m: usize = 0;
-    while m < n {
-        let d = wide_digit(row[n - 1 - m]);
-        m += 1;
-        rank = d + (m as u64) * rank;
+    let mut i: usize = 0;
+    while i < n {
+        rank += wide_digit(row[i]) * weights[i];
+        i += 1;
     }
     rank
 }

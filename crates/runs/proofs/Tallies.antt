@@ -44,7 +44,7 @@ module _ (n : ℕ) (few : n ≤ 20) where
   -- the entry of cell c
   pub tally-at : (f : ℕ → ℕ) (c : ℕ) → 1 ≤ c → c ≤ n → getD (row (map f (names n))) (c - 1) 0 ≡ f c
   tally-at f c low high =
-      row-at (map f (names n)) (c - 1) (omega (arith, map-long f n)) ∙ names-map-at f 1 n (c - 1) c (omega arith) (omega arith)
+      row-at (map f (names n)) (c - 1) (omega (arith, map-long f n)) ∙ names-map-at 0 f 1 n (c - 1) c (omega arith) (omega arith)
 
   -- one entry is changed
   pub tally-set : (f g : ℕ → ℕ) (c v : ℕ) → 1 ≤ c → c ≤ n → v ≡ g c → ((d : ℕ) → (d ≡ c → ⊥) → f d ≡ g d)

@@ -1,6 +1,6 @@
--- Factorials are positive, those up to 20! fit 64 bits, and falling factorials are their quotients and grow by a factor. Assumes nothing.
+-- Factorials are positive, those up to 20! fit 64 bits, and falling factorials are their quotients, 0 past n, and grow by a factor. Assumes nothing.
 use mathlib.Core.Path.{_≡_, refl, ap, sym, _∙_}
-use Prim.Native.Nat.{ℕ, zero, suc, _-_, _*_, _/_, _≤_}
+use Prim.Native.Nat.{ℕ, zero, suc, _-_, _*_, _/_, _≤_, _<_}
 use native.Mathlib.Nat.{le-of-suc-le-suc, mul-assoc, mul-le-mul-left, mul-le-mul-right, div-eq-of-eq-mul-left, div-le-self}
 use native.Mathlib.Omega.{arith}
 use Rattle.theory.specs.Factorial.{factorial, falling}
@@ -41,6 +41,12 @@ falling-factorial (suc n) (suc p) l =
 pub falling-quotient : (n p : ℕ) → p ≤ n → falling n p ≡ factorial n / factorial (n - p)
 falling-quotient n p l = sym (div-eq-of-eq-mul-left (factorial-pos (n - p)) (sym (falling-factorial n p l)))
 
+-- past n there is a factor 0
+falling-past : (n p : ℕ) → n < p → falling n p ≡ 0
+falling-past n zero h = absurd (omega arith)
+falling-past zero (suc p) h = omega arith
+falling-past (suc n) (suc p) h = let e : suc n - 1 ≡ n = omega arith in rw (e, falling-past n p (omega arith)) (omega arith)
+
 -- one factor more at the end
 pub falling-last : (n k : ℕ) → falling n (suc k) ≡ falling n k * (n - k)
 falling-last n zero = omega arith
@@ -55,4 +61,5 @@ factorials = record {
   fits = λ n h. omega (arith, factorial-grows n 20 h);
   quotient = falling-quotient;
   quotient-fits = λ n p h. omega (arith, factorial-grows n 20 h, div-le-self (factorial n) (factorial (n - p)));
+  past = falling-past;
 }

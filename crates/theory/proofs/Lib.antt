@@ -15,6 +15,7 @@ pub mod InTurn
 pub mod Splits
 pub mod Moves
 pub mod Stepping
+pub mod Weights
 pub mod Ranking
 pub mod Sums
 pub mod Cycle

@@ -39,10 +39,10 @@ names-at a (suc n) zero h = omega arith
 names-at a (suc n) (suc j) h = names-at (suc a) n j (omega arith) ∙ omega arith
 
 -- a row of the values of a function at each of them: the entry of c
-pub names-map-at : (f : ℕ → ℕ) (a n j c : ℕ) → a + j ≡ c → j < n → getD (map f (namesFrom a n)) j 0 ≡ f c
-names-map-at f a zero j c e h = absurd (omega arith)
-names-map-at f a (suc n) zero c e h = ap f (omega arith)
-names-map-at f a (suc n) (suc j) c e h = names-map-at f (suc a) n j c (omega arith) (omega arith)
+pub names-map-at : {A : Type 0} (z : A) (f : ℕ → A) (a n j c : ℕ) → a + j ≡ c → j < n → getD (map f (namesFrom a n)) j z ≡ f c
+names-map-at z f a zero j c e h = absurd (omega arith)
+names-map-at z f a (suc n) zero c e h = ap f (omega arith)
+names-map-at z f a (suc n) (suc j) c e h = names-map-at z f (suc a) n j c (omega arith) (omega arith)
 
 -- they are the names from a to below a + n, and no others
 pub names-low : (a n c : ℕ) → member c (namesFrom a n) ≡ true → a ≤ c

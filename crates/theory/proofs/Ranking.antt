@@ -1,4 +1,4 @@
--- Permutations of n cells and ranks below n! are each other's inverse, and the digits determine the rank. Assumes nothing.
+-- Permutations of n cells and ranks below n! are each other's inverse, and the digits determine the rank, by weights too. Assumes nothing.
 use mathlib.Core.Path.{_≡_, refl, sym, ap, ap₂, _∙_, subst}
 use mathlib.Core.List.{List, [], _∷_, _++_, reverse, reverse-append, reverse-reverse}
 use Prim.Native.Nat.{ℕ, zero, suc, _+_, _-_, _*_, _/_, _%_, _≤_, _<_}
@@ -6,17 +6,18 @@ use native.Mathlib.Nat.{mod-lt, mod-eq-of-lt, div-add-mod, add-mul-mod-self-left
 use native.Mathlib.Omega.{arith}
 use borrow.Author.Tests.{eq-eqb, ne-eqb}
 use lib.ListN.{length, getD, take, drop, length-reverse, take-append-drop}
-use lib.Seq.{length-take-le, take-at, drop-at}
+use lib.Seq.{length-take-le, take-at, drop-at, take-all}
 use Rattle.theory.specs.Lists.{count}
 use Rattle.theory.specs.Factorial.{factorial}
 use Rattle.theory.specs.Permutation.{IsPermutation, placeOf}
-use Rattle.theory.specs.Rank.{digit, remaining, rank, digits, digitValue}
+use Rattle.theory.specs.Rank.{digit, remaining, rank, digits, digitValue, weightedSum}
 use Rattle.theory.specs.Unrank.{placeOfDigit, insertAt, unrank}
 use Rattle.theory.specs.Claims.{Ranking}
 use Rattle.theory.proofs.Cases.{by-name}
 use Rattle.theory.proofs.Counts.{count-append, count-reverse, Adds, adds-reversed}
 use Rattle.theory.proofs.Permutations.{added, absent-past, empty, Around, around}
 use Rattle.theory.proofs.Splits.{rank-is, digit-top, digit-lower, digit-lt, rank-lt}
+use Rattle.theory.proofs.Weights.{weighted-value}
 
 -- ---- the largest cell, put into a permutation
 
@@ -186,6 +187,12 @@ digits-rank (suc m) xs =
     ap (λ (t : ℕ). digit (suc m) i + suc m * t)
     (ap (λ (k : ℕ). digitValue k (digits m (remaining i xs))) e ∙ digits-rank m (remaining i xs))
 
+weighted : (n : ℕ) (ds : List ℕ) → length ds ≡ n → weightedSum n n ds ≡ digitValue n ds
+weighted n ds long = weighted-value n n ds (omega arith) (omega arith) ∙ ap (digitValue n) (take-all n ds (omega arith))
+
+weighted-rank : (n : ℕ) (xs : List ℕ) → weightedSum n n (digits n xs) ≡ rank n xs
+weighted-rank n xs = weighted n (digits n xs) (digits-long n xs) ∙ digits-rank n xs
+
 circle : (i : ℕ) (xs : List ℕ) → remaining i xs ≡ reverse (drop i xs ++ take (i - 1) xs)
 unfolding remaining
 circle i xs = sym (reverse-append (drop i xs) (take (i - 1) xs))
@@ -201,4 +208,6 @@ ranking n = record {
   digits-range = digits-range n;
   digits-last = digits-last n;
   digits-rank = digits-rank n;
+  weighted = weighted n;
+  weighted-rank = weighted-rank n;
 }

@@ -11,7 +11,7 @@ use Rattle.theory.specs.Factorial.{factorial, falling}
 use Rattle.theory.specs.Permutation.{IsPermutation, row, cellAt, top}
 use Rattle.theory.specs.Push.{push, pushes, Places, pushCells, cellPlaces}
 use Rattle.theory.specs.Successor.{successor, step}
-use Rattle.theory.specs.Rank.{remaining, rank, digits, digitValue}
+use Rattle.theory.specs.Rank.{remaining, rank, digits, digitValue, weightedSum}
 use Rattle.theory.specs.Unrank.{unrank}
 use Rattle.theory.specs.Zero.{valueFrom, permutationFrom, oldZero, newZero}
 use Rattle.theory.specs.Levels.{level, highest, lowest, tied, permutationOf, ReadsAs, pushLevel, pushLevels, jump}
@@ -47,6 +47,8 @@ pub record Factorials : Type 0 where
   pub quotient : (n p : ℕ) → p ≤ n → falling n p ≡ factorial n / factorial (n - p)
   -- "n!/(n-p)!" fits 64 bits too
   pub quotient-fits : (n p : ℕ) → n ≤ 20 → factorial n / factorial (n - p) < 2 ^ 64
+  -- document 02, request 10: "with 0 past i = n"
+  pub past : (n p : ℕ) → n < p → falling n p ≡ 0
 
 -- a row of twenty that holds xs, of at most twenty entries
 pub record Padding (xs : List ℕ) : Type 0 where
@@ -68,6 +70,9 @@ pub record Ranking (n : ℕ) : Type 0 where
   pub digits-range : (xs : List ℕ) (i : ℕ) → i < n → getD (digits n xs) i 0 < n - i
   pub digits-last : (xs : List ℕ) → getD (digits n xs) (n - 1) 0 ≡ 0
   pub digits-rank : (xs : List ℕ) → digitValue n (digits n xs) ≡ rank n xs
+  -- document 02, request 10: of any n digits, the sum by weights is the number that they stand for; so "it must give the same rank for all orders"
+  pub weighted : (ds : List ℕ) → length ds ≡ n → weightedSum n n ds ≡ digitValue n ds
+  pub weighted-rank : (xs : List ℕ) → weightedSum n n (digits n xs) ≡ rank n xs
 
 -- a step of n cells
 pub record Stepping (n : ℕ) : Type 0 where

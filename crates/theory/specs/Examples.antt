@@ -1,6 +1,7 @@
--- Document 02: the examples that its requests give, each as it is written there, and one worked out by hand. Assumes nothing.
+-- Document 02: the examples that its requests give, each as it is written there, and two worked out by hand. Assumes nothing.
 use mathlib.Core.Path.{_≡_}
 use mathlib.Core.List.{[], _∷_}
+use Rattle.theory.specs.Rank.{digits, weightedSum}
 use Rattle.theory.specs.Prefix.{symbolPrefix}
 use Rattle.theory.specs.Store.{storePushes}
 use Rattle.theory.specs.Zero.{valueFrom, oldZero, newZero}
@@ -24,3 +25,5 @@ pub record Examples : Type 0 where
       × (decidingSize 4 (4 ∷ 2 ∷ 3 ∷ 1 ∷ []) ≡ 3)
       × (tests 4 (4 ∷ 1 ∷ 2 ∷ 3 ∷ []) ≡ 2)
       × (decidingSize 4 (4 ∷ 1 ∷ 2 ∷ 3 ∷ []) ≡ 2)
+  -- of request 10, by hand: document 01's [2,5,4,3,6,1], "digits 3,1,3,1,0,0, rank 219", which is 3 × 1 + 1 × 6 + 3 × 30 + 1 × 120
+  pub rank-by-weights : weightedSum 6 6 (digits 6 (2 ∷ 5 ∷ 4 ∷ 3 ∷ 6 ∷ 1 ∷ [])) ≡ 219

@@ -1,7 +1,8 @@
 -- The rank of a permutation and its digits, the b-factoradic of document 001. Assumes nothing.
 use mathlib.Core.List.{List, [], _∷_, _++_, reverse}
-use Prim.Native.Nat.{ℕ, zero, suc, _+_, _-_, _*_, _%_}
-use lib.ListN.{take, drop}
+use Prim.Native.Nat.{ℕ, zero, suc, _+_, _-_, _*_, _/_, _%_}
+use lib.ListN.{getD, take, drop}
+use Rattle.theory.specs.Factorial.{factorial}
 use Rattle.theory.specs.Permutation.{placeOf}
 
 -- "The digit is (i - 2) modulo n, from 0 to n - 1." Here n is added first, which changes nothing modulo n and keeps the difference a natural number
@@ -26,3 +27,8 @@ digits (suc m) xs = digit (suc m) (placeOf (suc m) xs) ∷ digits m (remaining (
 unfoldable pub digitValue : ℕ → List ℕ → ℕ
 digitValue n [] = 0
 digitValue n (d ∷ ds) = d + n * digitValue (n - 1) ds
+
+-- document 02, request 10: "the sum of digit bi times n!/(n-i)!, lowest digit first"; the second number tells how many digits
+unfoldable pub weightedSum : ℕ → ℕ → List ℕ → ℕ
+weightedSum n zero ds = 0
+weightedSum n (suc i) ds = weightedSum n i ds + getD ds i 0 * (factorial n / factorial (n - i))

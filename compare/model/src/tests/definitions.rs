@@ -1,9 +1,9 @@
 //! Definitions and claims, over all small groups.
 
 use super::{levels, permutation, permutations, prefixes, pushed};
-use crate::permutations::factorial;
+use crate::permutations::{factorial, weight};
 use crate::symbols::{number_of_prefix, prefix_length, prefix_of_symbol};
-use crate::{count_up, digits, push, push_level, rank, read, read_symbol, rewrite, store, successor, unrank, NextStep, Reason, Spent};
+use crate::{count_up, digits, push, push_level, rank, rank_by_weights, read, read_symbol, rewrite, store, successor, unrank, NextStep, Reason, Spent};
 use std::collections::{BTreeMap, VecDeque};
 
 /// n! steps from any start visit the ranks in sequence and return; no push raises a cell by more than n + 1 (document 001, theorem 7).
@@ -114,7 +114,37 @@ fn the_tests_of_a_whole_round() {
     }
 }
 
-/// The ranks are 0 to n! - 1, each once; unrank finds the one permutation of a rank; digits weigh 1, n, n(n-1), ...
+/// Document 02, request 10: "The 420 weights, for n from 1 to 20 in 21 places each, with 0 past i = n". By hand for 1, 4 and 20 cells; each is the one before it
+/// times a factor that falls by one from n on.
+#[test]
+fn weights_are_falling_factorials() {
+    let row = |n| (0..=20).map(|i| weight(n, i)).collect::<Vec<_>>();
+    assert_eq!(row(1)[..3], [1, 1, 0]);
+    assert_eq!(row(4)[..6], [1, 4, 12, 24, 24, 0]);
+    assert_eq!(row(20)[..3], [1, 20, 380]);
+    assert_eq!(row(20)[18..], [1_216_451_004_088_320_000, 2_432_902_008_176_640_000, 2_432_902_008_176_640_000]);
+    for n in 1..=20 {
+        assert_eq!(weight(n, 0), 1);
+        assert!((0..20).all(|i| weight(n, i + 1) == weight(n, i) * n.saturating_sub(i) as u64), "{n} cells");
+        assert!((n + 1..=20).all(|i| weight(n, i) == 0), "{n} cells");
+    }
+}
+
+/// "It must give the same rank for all orders." Of document 01's [2,5,4,3,6,1], with the digits 3, 1, 3, 1, 0, 0, it is 3 × 1 + 1 × 6 + 3 × 30 + 1 × 120.
+#[test]
+fn the_sum_by_weights_is_the_rank() {
+    assert_eq!(rank_by_weights(&permutation(&[2, 5, 4, 3, 6, 1])), Ok(3 + 6 + 90 + 120));
+    for order in (2..=7).flat_map(permutations).map(|names| permutation(&names)) {
+        assert_eq!(rank_by_weights(&order), rank(&order), "{order:?}");
+    }
+    for n in 2..=20 {
+        for number in (0..factorial(n)).step_by(1.max(factorial(n) as usize / 1000)).chain([factorial(n) - 1]) {
+            assert_eq!(unrank(n, number).and_then(|order| rank_by_weights(&order)), Ok(number));
+        }
+    }
+}
+
+/// The ranks are 0 to n! - 1, each once; unrank finds the one permutation of a rank.
 #[test]
 fn unrank_is_the_inverse_of_rank() {
     for n in 2..=6 {
@@ -125,8 +155,6 @@ fn unrank_is_the_inverse_of_rank() {
             assert_eq!(unrank(n, number), Ok(found[0]));
             let row = digits(&found[0]).unwrap();
             assert!(row[n - 1..].iter().all(|&digit| digit == 0));
-            let weighed = (0..n).map(|index| u64::from(row[index]) * prefixes(n, index).len() as u64);
-            assert_eq!(weighed.sum::<u64>(), number);
         }
     }
 }

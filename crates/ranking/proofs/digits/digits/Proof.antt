@@ -5,6 +5,8 @@ use Prim.Native.Nat.{ℕ}
 use native.Mathlib.Omega.{arith}
 use borrow.Author.Needs.{needs}
 use borrow.Author.Tests.{ne-eqb}
+use Rattle.permutation.specs.Records.{listOf}
+use Rattle.permutation.specs.Spots.{HasSpots}
 use Rattle.ranking.specs.Answers.{digitsAnswer}
 use Rattle.permutation.proofs.Records.{Sound}
 use Rattle.permutation.proofs.Checking.{check-number, check-sound, check-spots}
@@ -14,26 +16,30 @@ use Rattle.ranking.proofs.digits.digits.Tie as tie
 
 returns : tie.Need-returns
 unfolding digitsAnswer
-returns c = rw (← check-number _ (c .before .check .ensures), ne-eqb _ _ (c .if1 .taken))
+returns c = rw (← check-number _ (c .before .check-into .ensures), ne-eqb _ _ (c .if1 .taken))
 
--- past the test, the record is a permutation's
-sound-now : (c : tie.Else1) → Sound (c .before .before .args .permutation)
-sound-now c = check-sound _ (c .before .check .ensures) (search needs) (c .if1 .left)
+-- past the test, the record is a permutation's, and the lent spots are its own
+module _ (c : tie.Else1) where
+  sound-now : Sound (c .before .before .before .args .permutation)
+  sound-now = check-sound _ (c .before .check-into .ensures) (search needs) (c .if1 .left)
+
+  spots-now : HasSpots (listOf (c .before .before .before .args .permutation)) (c .before .before .before .args .permutation .n) (c .before .check-into .last .1 .0)
+  spots-now = rw (c .if1 .left) at (check-spots _ (c .before .check-into .ensures) sound-now)
 
 read-down-requires : tie.Need-read-down-requires
 read-down-requires c κs =
-    let past = c .before .before .before in
+    let past = c .before .before in
     let s = sound-now past in
-    (s .many, omega arith, omega arith, refl, spots-low (s .many) (s .permutation) (check-spots _ (past .before .check .ensures) s))
+    (s .many, omega arith, omega arith, refl, spots-low (s .many) (s .permutation) (spots-now past))
 
 returns-2 : tie.Need-returns-2
 unfolding digitsAnswer
 returns-2 c =
-    let past = c .before .before .before .before in
+    let past = c .before .before .before in
     let s = sound-now past in
     rw (s .fault)
     (ap (λ (l : List ℕ). record { number = 0; row = l })
-    (read-row (s .many) (s .permutation) (check-spots _ (past .before .check .ensures) s) (c .read-down .ensures)))
+    (read-row (s .many) (s .permutation) (spots-now past) (c .read-down .ensures)))
 
 pub digits-spec : {M : Type 1} → statement M
 digits-spec = tie.close (tie.spec (λ c κs. tt) returns read-down-requires returns-2)

@@ -1,5 +1,6 @@
 -- `ranking::rank::rank` meets its contract: the digits determine the rank. Assumes nothing.
 use mathlib.Core.Path.{_≡_, sym, ap, _∙_}
+use native.Mathlib.Omega.{arith}
 use borrow.Author.Tests.{ne-eqb}
 use Rattle.theory.specs.Permutation.{row}
 use Rattle.theory.specs.Rank.{digits}
@@ -34,7 +35,7 @@ row-value-requires : tie.Need-row-value-requires
 row-value-requires c κs =
     let at = c .before in
     let p = at .before .before .args .permutation in
-    rw (row-is at) (digits-bounded (p .n) (listOf p) (sound-now at .many))
+    (omega (arith, sound-now at .few), rw (row-is at) (digits-bounded (p .n) (listOf p) (sound-now at .many)))
 
 returns-2 : tie.Need-returns-2
 unfolding rankAnswer

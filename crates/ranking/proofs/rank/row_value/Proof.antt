@@ -1,67 +1,63 @@
--- `ranking::rank::row_value` meets its contract. The loop's invariant: the value is that of the last m digits. The row goes by value:
+-- `ranking::rank::row_value` meets its contract. The loop's invariant: the sum is that of the first i digits. The row goes by value:
 -- it is `t1` among the arguments. Assumes nothing.
-use mathlib.Core.Path.{_≡_}
-use Prim.Native.Nat.{suc, _+_, _-_, _*_, _^_, _≤_, _<_}
+use Prim.Native.Nat.{_+_, _-_, _*_, _^_, _<_}
 use native.Mathlib.Numerals.{add-one}
 use native.Mathlib.Omega.{arith}
-use lib.ListN.{length}
+use lib.ListN.{getD}
 use borrow.Author.Needs.{needs}
-use Rattle.ranking.proofs.Values.{RowValued, valued-none, valued-more, valued-fits, valued-all}
+use Rattle.ranking.proofs.Table.{weight-at}
+use Rattle.ranking.proofs.Values.{Summed, summed-none, summed-more, summed-fits, summed-all}
 use Rattle.ranking.proofs.rank.row_value.Statement.{statement}
 use Rattle.ranking.proofs.rank.row_value.Tie as tie
 
 abbrev Inv-loop : tie.InvT-loop
-Inv-loop n row rank₀ m₀ rank m = RowValued row n m rank
+Inv-loop n row weights rank₀ i₀ rank i = Summed row n i rank
 
 abbrev μ-loop : tie.MeasureT-loop
-μ-loop n row rank₀ m₀ rank m = n - m
+μ-loop n row weights rank₀ i₀ rank i = n - i
+
+weight-row-requires : tie.Need-weight-row-requires Inv-loop μ-loop
+weight-row-requires c κs = (c .pre .0, c .pre .1 .few)
 
 loop-holds : tie.Need-loop-holds Inv-loop μ-loop
-loop-holds c =
-    let few = c .pre .few in
-    let long : length (c .args .t1) ≡ 20 = search needs in
-    valued-none (c .args .t1) (c .args .n) (omega arith)
-
-sub-wide-digit : tie.Need-sub-wide-digit Inv-loop μ-loop
-sub-wide-digit c = search needs
-
-sub-wide-digit-2 : tie.Need-sub-wide-digit-2 Inv-loop μ-loop
-sub-wide-digit-2 c = search needs
+loop-holds c = summed-none (c .before .args .t1) (c .before .args .n)
 
 array-read-wide-digit : tie.Need-array-read-wide-digit Inv-loop μ-loop
-array-read-wide-digit c = search needs
-
-add-m : tie.Need-add-m Inv-loop μ-loop
-add-m c = search needs
-
--- the digit read, and its value with those before it
-turn : (c : tie.After-wide-digit Inv-loop μ-loop) →
-    let at = c .before .before in
-    let value = c .wide-digit .result + (at .loop .m + 1) * at .loop .rank in
-    RowValued (at .before .args .t1) (at .before .args .n) (at .loop .m + 1) value × (value < 2 ^ 64)
-turn c =
-    let at = c .before .before in
-    let row = at .before .args .t1 in
-    let n = at .before .args .n in
-    let m = at .loop .m in
-    let d = c .wide-digit .result in
-    let is-d = c .wide-digit .ensures in
-    let few = at .before .pre .few in
-    let long : length row ≡ 20 = search needs in
-    let room : n ≤ length row = omega arith in
-    let more : m < n = omega arith in
-    let small : d < suc m = omega (arith, is-d, at .before .pre .small (n - 1 - m) (omega arith)) in
-    let v = at .loop .inv in
-    rw (add-one m) (
-      valued-more row n room m (at .loop .rank) d v more is-d small,
-      valued-fits row n room m (at .loop .rank) d v more is-d small few,
-    )
+array-read-wide-digit c = let few = c .before .before .before .pre .1 .few in search needs
 
 mul-rank : tie.Need-mul-rank Inv-loop μ-loop
-mul-rank c = omega (arith, turn c .1)
+mul-rank c = search needs
+
+array-read-rank : tie.Need-array-read-rank Inv-loop μ-loop
+array-read-rank c = let few = c .before .before .before .before .pre .1 .few in search needs
+
+-- the digit read, times its weight, with what those before it give
+turn : (c : tie.After-wide-digit Inv-loop μ-loop) →
+    let at = c .before .before in
+    let sum = at .loop .rank + c .wide-digit .result * getD (at .before .weight-row .result) (at .loop .i) 0 in
+    Summed (at .before .before .args .t1) (at .before .before .args .n) (at .loop .i + 1) sum × (sum < 2 ^ 64)
+turn c =
+    let at = c .before .before in
+    let start = at .before .before in
+    let row = start .args .t1 in
+    let n = start .args .n in
+    let i = at .loop .i in
+    let few = start .pre .1 .few in
+    let more : i < n = omega arith in
+    let is-d = c .wide-digit .ensures in
+    let small : c .wide-digit .result < n - i = rw is-d (start .pre .1 .small i more) in
+    let is-w = weight-at n (at .before .weight-row .ensures) i (omega arith) in
+    let v = at .loop .inv in
+    rw (add-one i) (summed-more row n v more is-d small is-w, summed-fits row n v more is-d small is-w few)
+
+mul-rank-2 : tie.Need-mul-rank-2 Inv-loop μ-loop
+mul-rank-2 c = omega (arith, turn c .1)
 
 add-rank : tie.Need-add-rank Inv-loop μ-loop
 add-rank c = omega (arith, turn c .1)
+
+add-i : tie.Need-add-i Inv-loop μ-loop
+add-i c = search needs
 
 loop-less : tie.Need-loop-less Inv-loop μ-loop
 loop-less c = search needs
@@ -71,10 +67,8 @@ loop-again c = turn c .0
 
 returns : tie.Need-returns Inv-loop μ-loop
 returns c =
-    let start = c .before .before in
-    let few = start .pre .few in
-    let long : length (start .args .t1) ≡ 20 = search needs in
-    valued-all (start .args .t1) (start .args .n) (omega arith) (c .before .loop .m) (c .before .loop .rank) (omega arith) (c .before .loop .inv)
+    let start = c .before .before .before in
+    summed-all (start .args .t1) (start .args .n) (omega (arith, c .before .loop .inv .within)) (c .before .loop .inv)
 
 pub row-value-spec : {M : Type 1} → statement M
 row-value-spec =
@@ -82,14 +76,15 @@ row-value-spec =
     (tie.spec
     Inv-loop
     μ-loop
+    weight-row-requires
     loop-holds
-    sub-wide-digit
-    sub-wide-digit-2
     array-read-wide-digit
     (λ c κs. tt)
-    add-m
     mul-rank
+    array-read-rank
+    mul-rank-2
     add-rank
+    add-i
     loop-less
     loop-again
     returns)
