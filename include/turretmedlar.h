@@ -1,4 +1,4 @@
-/* Turretmedlar: groups of 2 to 20 cells that store by order of charge.
+/* Turretmedlar: groups of 2 to 20 cells that store by order of charge, and arrangements of up to 64 cells with several to a level.
  *
  * The functions of the static library target/staticlib/libturretmedlar.a, which `rt staticlib turretmedlar` proves and builds for x86-64 Linux (System V calling
  * convention; it needs memcpy, memmove and memset, and uses SSE registers). What each gives is proved, for every input value. "Document 01" is the scope paper
@@ -29,7 +29,7 @@ extern "C" {
 
 /* The version of this header and its library; README.md and the Rust package have the same. The second number counts landings (docs/landings/), each of which
  * may change what a caller sees; the third counts corrections since, which change nothing that a caller relies on. The first is 0 until a release. */
-#define TM_VERSION "0.17.0"
+#define TM_VERSION "0.18.0"
 /* The most cells of a group, and the places of a record's row. */
 #define TM_CELLS 20
 /* The most bytes of a sheet without fault; a longer one is faulty. */
@@ -40,11 +40,12 @@ extern "C" {
 /* Document 01, "Why a job is sent back", and document 02's new numbers. */
 enum tm_reason {
     TM_DONE = 0,
-    TM_SIZE = 1,    /* size: n is below 2 or above 20, for the group first, then for a target */
+    TM_SIZE = 1,    /* size: n is below 2 or above 20, for the group first, then for a target; of an arrangement, q is not 2 to 16, z not 1 to 16, or q * z
+                       above 64 */
     TM_FIT = 2,     /* fit: a target's n differs from the group's; the two lists of bands differ in length; or a lent list is too short: a push list has fewer
                        than n - 1 bytes, a text buffer fewer than the text, a list of tm_within_reach fewer than the listing, a list of tm_write_sheet fewer
-                       entries than the others say */
-    TM_MUDDLE = 3,  /* muddle: a record is no permutation */
+                       entries than the others say; or a list of tm_rearrange has not q * z entries */
+    TM_MUDDLE = 3,  /* muddle: a record is no permutation, or a list no arrangement */
     TM_TIE = 4,     /* tie: two levels are equal */
     TM_VALUE = 5,   /* value: a rank, value, zero, place, m, symbol or r is outside its range; a lowest level is above its highest; or a listing would exceed
                        65,536 bytes */
@@ -116,6 +117,12 @@ typedef struct tm_symbol {
     uint8_t number;
     uint64_t symbol;
 } tm_symbol;
+
+/* The cost of changing an arrangement: how far the highest level rises above q, 0 to q - 1. */
+typedef struct tm_rearranged {
+    uint8_t number;
+    uint8_t cost;
+} tm_rearranged;
 
 typedef struct tm_written {
     uint8_t number;
@@ -228,6 +235,19 @@ tm_permuted tm_read_bands(const uint16_t *lowest, size_t n, const uint16_t *high
  * no such prefix; after that 7 idle, its number is m or higher.
  * Unchanged: both lists, always. */
 tm_symbol tm_read_symbol_bands(const uint16_t *lowest, size_t n, const uint16_t *highest, size_t highest_length, uint64_t m);
+
+/* ---- arrangements: q levels with z cells each (document 02, request 11); q is 2 to 16, z 1 to 16, and q * z at most 64 ----
+ * An arrangement gives each of the q * z cells a level from 1 to q, each level used z times: its entry 0 is the level of cell 1. */
+
+/* Changes one arrangement into another. Cells only rise, by whole levels, so that every cell of a lower new level ends strictly below every cell of a higher one.
+ * Gives the cost, which is the largest of old level less new level over all cells: no levels to which the cells may so rise cost less. Into `list` go the raised
+ * levels, each cell's new level plus the cost, at most 31. All three lists have just q * z entries, `list` too. What is left is the new arrangement, all of it
+ * higher by the cost, so that the next change takes `new_levels` as old, and the costs add up.
+ * Refused: 1 size, q is not 2 to 16, z is not 1 to 16, or q * z is above 64; 2 fit, one of the three lengths is not q * z; 3 muddle, `old_levels` or `new_levels` is
+ * no arrangement.
+ * Unchanged: `old_levels` and `new_levels`, always; refused, all of `list`. */
+tm_rearranged tm_rearrange(size_t q, size_t z, const uint8_t *old_levels, size_t old_length, const uint8_t *new_levels, size_t new_length, uint8_t *list,
+                           size_t list_length);
 
 /* ---- the bench sheet ---- */
 

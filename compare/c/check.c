@@ -15,6 +15,7 @@ _Static_assert(sizeof(tm_valued) == 16 && offsetof(tm_valued, value) == 8, "tm_v
 _Static_assert(sizeof(tm_pushes) == 12 && offsetof(tm_pushes, pushes) == 4 && offsetof(tm_pushes, charge) == 8, "tm_pushes");
 _Static_assert(sizeof(tm_reached) == 16 && offsetof(tm_reached, permutations) == 8, "tm_reached");
 _Static_assert(sizeof(tm_symbol) == 16 && offsetof(tm_symbol, symbol) == 8, "tm_symbol");
+_Static_assert(sizeof(tm_rearranged) == 2 && offsetof(tm_rearranged, cost) == 1, "tm_rearranged");
 _Static_assert(sizeof(tm_printed) == 16 && offsetof(tm_printed, length) == 8, "tm_printed");
 _Static_assert(sizeof(tm_written) == 16 && offsetof(tm_written, length) == 8, "tm_written");
 
@@ -249,6 +250,51 @@ static void check_reach(void) {
     CHECK(memcmp(longest + 53752, last, 8) == 0 && memcmp(longest + 53760, blanks, 161280 - 53760) == 0);
 }
 
+static int rearranged(tm_rearranged answer, uint8_t number, uint8_t cost) {
+    return answer.number == number && answer.cost == cost;
+}
+
+/* Document 02, request 11: three levels with two cells each, of document 000's example 2, and of its section IV-A. `low`, `past` and `uneven` are no
+ * arrangements. */
+static void check_arrangements(void) {
+    uint8_t old[7] = {2, 3, 1, 2, 3, 1, 9}, new[7] = {1, 1, 2, 2, 3, 3, 9}, list[7], blank[7];
+    const uint8_t old_before[7] = {2, 3, 1, 2, 3, 1, 9}, new_before[7] = {1, 1, 2, 2, 3, 3, 9}, raised[7] = {3, 3, 4, 4, 5, 5, 99};
+    const uint8_t state[6] = {1, 2, 1, 3, 2, 3}, message[6] = {2, 1, 3, 2, 1, 3}, above[7] = {3, 2, 4, 3, 2, 4, 99};
+    const uint8_t low[6] = {1, 1, 2, 0, 3, 3}, past[6] = {1, 1, 2, 2, 3, 4}, uneven[6] = {1, 1, 2, 2, 2, 3};
+    memset(list, 99, sizeof list);
+    memset(blank, 99, sizeof blank);
+    CHECK(rearranged(tm_rearrange(1, 6, old, 6, new, 6, list, 6), TM_SIZE, 0) && rearranged(tm_rearrange(17, 2, old, 6, new, 6, list, 6), TM_SIZE, 0));
+    CHECK(rearranged(tm_rearrange(3, 0, old, 6, new, 6, list, 6), TM_SIZE, 0) && rearranged(tm_rearrange(3, 17, old, 6, new, 6, list, 6), TM_SIZE, 0));
+    CHECK(rearranged(tm_rearrange(13, 5, old, 6, low, 6, list, 7), TM_SIZE, 0));
+    /* modulo 2^64 the product is 6 */
+    CHECK(rearranged(tm_rearrange(SIZE_MAX / 2 + 4, 2, old, 6, new, 6, list, 6), TM_SIZE, 0));
+    CHECK(rearranged(tm_rearrange(3, 2, old, 5, new, 6, list, 6), TM_FIT, 0) && rearranged(tm_rearrange(3, 2, old, 7, new, 6, list, 6), TM_FIT, 0));
+    CHECK(rearranged(tm_rearrange(3, 2, old, 6, new, 5, list, 6), TM_FIT, 0) && rearranged(tm_rearrange(3, 2, old, 6, new, 7, list, 6), TM_FIT, 0));
+    CHECK(rearranged(tm_rearrange(3, 2, old, 6, new, 6, list, 5), TM_FIT, 0) && rearranged(tm_rearrange(3, 2, old, 6, low, 6, list, 7), TM_FIT, 0));
+    CHECK(rearranged(tm_rearrange(3, 2, low, 6, new, 6, list, 6), TM_MUDDLE, 0) && rearranged(tm_rearrange(3, 2, old, 6, low, 6, list, 6), TM_MUDDLE, 0));
+    CHECK(rearranged(tm_rearrange(3, 2, past, 6, new, 6, list, 6), TM_MUDDLE, 0) && rearranged(tm_rearrange(3, 2, old, 6, past, 6, list, 6), TM_MUDDLE, 0));
+    CHECK(rearranged(tm_rearrange(3, 2, uneven, 6, new, 6, list, 6), TM_MUDDLE, 0) && rearranged(tm_rearrange(3, 2, old, 6, uneven, 6, list, 6), TM_MUDDLE, 0));
+    CHECK(memcmp(list, blank, sizeof list) == 0);
+    CHECK(rearranged(tm_rearrange(3, 2, old, 6, new, 6, list, 6), TM_DONE, 2) && memcmp(list, raised, sizeof list) == 0);
+    CHECK(rearranged(tm_rearrange(3, 2, state, 6, message, 6, list, 6), TM_DONE, 1) && memcmp(list, above, sizeof list) == 0);
+    CHECK(rearranged(tm_rearrange(3, 2, old, 6, old, 6, list, 6), TM_DONE, 0) && memcmp(list, old, 6) == 0 && list[6] == 99);
+    CHECK(memcmp(old, old_before, sizeof old) == 0 && memcmp(new, new_before, sizeof new) == 0);
+}
+
+/* Sixteen levels with four cells each, and four with sixteen, upside down: no level rises above 31. */
+static void check_large_arrangements(void) {
+    uint8_t old[64], new[64], list[64], expected[64];
+    for (size_t q = 4; q <= 16; q += 12) {
+        for (size_t cell = 0; cell < 64; cell++) {
+            new[cell] = (uint8_t)(1 + cell * q / 64);
+            old[cell] = (uint8_t)(q + 1 - new[cell]);
+            expected[cell] = (uint8_t)(new[cell] + q - 1);
+        }
+        CHECK(rearranged(tm_rearrange(q, 64 / q, old, 64, new, 64, list, 64), TM_DONE, (uint8_t)(q - 1)) && memcmp(list, expected, sizeof list) == 0);
+    }
+    CHECK(list[63] == 31);
+}
+
 /* Document 01's bench sheet, and with its group on the new zero. */
 static const uint8_t sheet[] = {1, 3, 3, 0, 1, 0, 2, 0, 3, 0, 1, 0, 4, 0, 0, 0, 2, 0, 3, 1, 2, 3, 0, 3, 0, 0, 0, 0, 0, 0, 0, 3, 0, 0, 0, 0, 0, 0, 0};
 static const uint8_t renewed[] = {1, 3, 3, 0, 1, 0, 2, 0, 3, 0, 1, 0, 4, 0, 0, 0, 2, 0, 3, 1, 2, 3, 0, 3, 0, 0, 0, 0, 0, 0, 0, 3, 0, 0, 0, 0, 0, 0, 0, 1, 0};
@@ -387,6 +433,7 @@ static void check_change(void) {
 /* "with length 0 the address is not used and may be NULL" */
 static void check_null(void) {
     const tm_permutation target = {2, {1, 2}};
+    const uint8_t arranged[2] = {1, 2};
     uint16_t levels[2] = {0, 1};
     uint8_t text[4];
     CHECK(refused(tm_read(NULL, 0), TM_SIZE) && sent_back(tm_push_level(NULL, 0, 2), TM_SIZE) && sent_back(tm_count_up(NULL, 0, 1), TM_SIZE));
@@ -396,6 +443,9 @@ static void check_null(void) {
     CHECK(sent_back(tm_store(NULL, 0, 1, 0), TM_SIZE) && tm_read_symbol(NULL, 0, 1).number == TM_SIZE);
     CHECK(refused(tm_read_bands(NULL, 0, NULL, 0), TM_SIZE) && refused(tm_read_bands(levels, 2, NULL, 0), TM_FIT));
     CHECK(tm_read_symbol_bands(NULL, 0, levels, 2, 1).number == TM_SIZE && tm_read_symbol_bands(levels, 2, NULL, 0, 1).number == TM_FIT);
+    CHECK(rearranged(tm_rearrange(0, 0, NULL, 0, NULL, 0, NULL, 0), TM_SIZE, 0) && rearranged(tm_rearrange(2, 1, NULL, 0, NULL, 0, NULL, 0), TM_FIT, 0));
+    CHECK(rearranged(tm_rearrange(2, 1, NULL, 0, arranged, 2, text, 2), TM_FIT, 0) && rearranged(tm_rearrange(2, 1, arranged, 2, NULL, 0, text, 2), TM_FIT, 0));
+    CHECK(rearranged(tm_rearrange(2, 1, arranged, 2, arranged, 2, NULL, 0), TM_FIT, 0));
     CHECK(tm_bench(NULL, 0, NULL, 0).number == TM_FIT);
     CHECK(tm_bench(NULL, 0, text, sizeof text).length == 4 && memcmp(text, "s 8\n", 4) == 0);
     const held *h = &paper;
@@ -416,6 +466,8 @@ int main(void) {
     check_charge();
     check_bands();
     check_reach();
+    check_arrangements();
+    check_large_arrangements();
     check_sheet();
     check_writing();
     check_change();

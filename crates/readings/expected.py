@@ -41,6 +41,8 @@ def answer(line):
         return line
     job, *words = line.split()
     numbers = [int(word) for word in words if word.isdigit()]
+    if job == "rearrange":
+        return " ".join(map(str, [line, ":", *do_rearrange(*numbers, *words[3:])]))
     if job == "walk":
         return line + " ".join(map(str, do_walk(*numbers))).replace(" \n", "\n")
     return " ".join(map(str, [line, ":", *JOBS[job](*numbers)]))
@@ -116,6 +118,18 @@ REACH = {"reach 0 2 | 2 1": "0 1 | 1 2", "reach 1 4 | 2 1": "0 2 | 1 2 2 1", "re
          "reach 2 3 | 1 2": "5 0 | 99 99 99", "reach 18446744073709551615 0 | 3 2 1": "5 0 |", "reach 1 3 | 1 2": "2 0 | 99 99 99"}
 # .. the bytes of the longest listings and of the shortest above 65,536, by n and r
 LISTINGS = {(8, 5): 53760, (16, 3): 53760, (17, 3): 69360}
+
+# Document 02, request 11, and document 000: its Example 2, with the order of Example 1, in which the highest level rises by 2; Example 10, "no greater" than 1; and
+# section II-B's order, which stays. A letter is a level, A is 1. Then by hand: one cell to a place, up and down; the highest that there is, 31; size, fit and muddle,
+# each before the next
+ARRANGED = {"rearrange 3 2 6 BCABCA AABBCC": "0 2 | 3 3 4 4 5 5", "rearrange 3 2 6 ABACBC BACBAC": "0 1 | 3 2 4 3 2 4", "rearrange 2 2 4 ABAB ABAB": "0 0 | 1 2 1 2",
+            "rearrange 2 1 2 AB BA": "0 1 | 3 2", "rearrange 3 1 3 CAB ABC": "0 2 | 3 4 5", "rearrange 3 1 3 ABC CAB": "0 1 | 4 2 3",
+            "rearrange 16 1 16 ABCDEFGHIJKLMNOP PONMLKJIHGFEDCBA": "0 15 | 31 30 29 28 27 26 25 24 23 22 21 20 19 18 17 16",
+            "rearrange 1 6 5 - @": "1 0 | 99 99 99 99 99", "rearrange 17 2 2 @ BA": "1 0 | 99 99", "rearrange 3 0 0 - -": "1 0 |", "rearrange 2 17 2 AB BA": "1 0 | 99 99",
+            "rearrange 13 5 1 AB BA": "1 0 | 99", "rearrange 9223372036854775809 2 2 AB BA": "1 0 | 99 99", "rearrange 2 1 2 A BA": "2 0 | 99 99",
+            "rearrange 2 1 2 ABA BA": "2 0 | 99 99", "rearrange 2 1 2 AB B": "2 0 | 99 99", "rearrange 2 1 2 AB BAB": "2 0 | 99 99", "rearrange 2 1 1 AB BA": "2 0 | 99",
+            "rearrange 2 1 3 @B BA": "2 0 | 99 99 99", "rearrange 2 1 2 @B BA": "3 0 | 99 99", "rearrange 2 1 2 AC BA": "3 0 | 99 99", "rearrange 2 1 2 AA BA": "3 0 | 99 99",
+            "rearrange 2 1 2 AB B@": "3 0 | 99 99", "rearrange 2 1 2 AB CA": "3 0 | 99 99", "rearrange 2 1 2 AB BB": "3 0 | 99 99"}
 
 # Document 02, request 7: the orders that it prints, with their values on the old and on the new zero; "the longest sheet becomes 24,692 bytes"
 VALUES = {(1, 2, 3, 4): (10, 0), (1, 3, 2): (0, 2)}
@@ -553,6 +567,41 @@ def check_weights(lines):
         assert digits(last) == [*range(n - 1, -1, -1)] and rank_by_weights(last) == factorial(n) - 1 and on("rank", last) in lines
 
 
+def is_raise(old, new, raised):
+    """"Cells only rise [..], and after it every cell of a lower new level must be strictly below every cell of a higher one."""
+    cells = range(len(old))
+    return all(old[i] <= raised[i] for i in cells) and all(raised[i] < raised[j] for i in cells for j in cells if new[i] < new[j])
+
+
+def check_arrangements(lines):
+    for line, expected in ARRANGED.items():
+        assert answer(line).split(" : ")[1] == expected and line in lines
+    # all pairs of small sizes: "the largest of old level less new level over all cells"; and, up to four cells, by trying every list of levels no raise has a lower
+    # highest level
+    for q, z in ((2, 1), (3, 1), (4, 1), (2, 2), (3, 2)):
+        arranged = sorted({*permutations([*range(1, q + 1)] * z)})
+        for old, new in product(arranged, arranged):
+            number, cost, raised = rearrange(q, z, q * z, old, new)
+            assert number == 0 and cost == max(o - n for o, n in zip(old, new)) and is_raise(old, new, raised) and max(raised) == q + cost
+            assert q * z > 4 or not any(is_raise(old, new, levels) for levels in product(range(1, q + cost), repeat=q * z))
+    # with one cell to a place, the levels of an order are n for its first name to 1 for its last. The cost is the most places that a cell goes down, and no more than
+    # the pushes of a rewrite, which leave a raise too
+    for n in range(2, 6):
+        for old, new in product([*permutations(range(1, n + 1))], repeat=2):
+            before, after = ([n - order.index(cell) for cell in range(1, n + 1)] for order in (old, new))
+            number, cost, _ = rearrange(n, 1, n, before, after)
+            assert number == 0 and cost == max(new.index(cell) - old.index(cell) for cell in old) <= rewrite_count([*old], [*new])
+    # the readings have every number, the ends of the ranges of sizes, no cost, the largest and others
+    asked = {}
+    for line in (line for line in lines if line.startswith("rearrange")):
+        q, z, room, old, new = line.split()[1:]
+        number, cost = do_rearrange(int(q), int(z), int(room), old, new)[:2]
+        asked.setdefault(number, set()).add((int(q), int(z), cost))
+        assert max(int(room), len(old), len(new)) <= 128, "what the program lends, and reads of a line"
+    assert {*asked} == {0, 1, 2, 3} and {(2, 1), (16, 1), (16, 4), (4, 16), (2, 16)} <= {(q, z) for q, z, _ in asked[0]}
+    assert {(2, 2, 0), (16, 1, 15), (16, 4, 6)} <= asked[0]
+
+
 text = Path(__file__).with_name("stdin").read_text()
 assert len(text) <= 65536, "what the program reads"
 lines = text.splitlines()
@@ -569,5 +618,6 @@ check_reach({*lines})
 check_zeros({*lines})
 check_tests({*lines})
 check_weights({*lines})
+check_arrangements({*lines})
 for line in lines:
     print(answer(line))

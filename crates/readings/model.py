@@ -566,3 +566,46 @@ def do_reach_sum(r, room, *levels):
     for byte in lent:
         total = (total * 31 + byte) % 1000003
     return [number, count, total]
+
+
+# Several cells to a place, document 02, request 11.
+
+def levels_of(word):
+    """The levels of a word of a reading, a letter for each cell: A is 1, and @ is 0. What is below that is no level."""
+    return [ord(letter) - ord("@") for letter in word if letter >= "@"]
+
+
+def arrangement(q, z, levels):
+    """"An arrangement gives each of the q × z cells a level from 1 to q, each level used z times"."""
+    return sorted(levels) == sorted([*range(1, q + 1)] * z)
+
+
+def lowest_raise(old, new):
+    """The cells of the lowest new level stay, and each of a higher one rises as far as it must, to 1 above the highest of the level below: document 000's
+    modulation. "Cells only rise, by whole levels, and after it every cell of a lower new level must be strictly below every cell of a higher one", so that no raise
+    has a cell lower than this one."""
+    raised, below = [*old], 0
+    for level in sorted({*new}):
+        cells = [cell for cell in range(len(new)) if new[cell] == level]
+        for cell in cells:
+            raised[cell] = max(old[cell], below + 1)
+        below = max(raised[cell] for cell in cells)
+    return raised
+
+
+def rearrange(q, z, room, old, new):
+    """The number, the cost, and the lent list, each byte of which is 99 at first. "The cost is how far the highest level rises above q, and it is to be the least
+    possible"; "the raised levels, each cell's new level plus the cost"."""
+    sized_so = 2 <= q <= 16 and 1 <= z <= 16 and q * z <= 64
+    number = lowest(size=not sized_so)
+    number = number or lowest(fit=any(entries != q * z for entries in (len(old), len(new), room)))
+    number = number or lowest(muddle=not (arrangement(q, z, old) and arrangement(q, z, new)))
+    if number:
+        return number, 0, [99] * room
+    cost = max(lowest_raise(old, new)) - q
+    return 0, cost, [level + cost for level in new]
+
+
+def do_rearrange(q, z, room, old, new):
+    number, cost, lent = rearrange(q, z, room, levels_of(old), levels_of(new))
+    return [number, cost, "|", *lent]

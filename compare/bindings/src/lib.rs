@@ -1,6 +1,6 @@
-//! Safe Rust bindings of Turretmedlar: groups of 2 to 20 cells that store by order of charge. Every function takes any input; a refused job gives its reason and
-//! leaves every lent list as it was. The functions are those of `include/turretmedlar.h`, which says more of each; [`raw`] has their answers as they cross.
-//! They use no heap.
+//! Safe Rust bindings of Turretmedlar: groups of 2 to 20 cells that store by order of charge, and arrangements of up to 64 cells with several to a level. Every
+//! function takes any input; a refused job gives its reason and leaves every lent list as it was. The functions are those of `include/turretmedlar.h`, which says
+//! more of each; [`raw`] has their answers as they cross. They use no heap.
 #![no_std]
 
 pub mod raw;
@@ -22,12 +22,12 @@ pub const TEXT_BYTES: usize = 31_344;
 #[repr(u8)]
 #[derive(Clone, Copy, Debug, PartialEq, Eq, PartialOrd, Ord)]
 pub enum Reason {
-    /// n is below 2 or above 20, of the group or of a target.
+    /// n is below 2 or above 20, of the group or of a target; of an arrangement q is outside 2 to 16, z outside 1 to 16, or q × z above 64.
     Size = 1,
-    /// A target's n differs from the group's, the two lists of bands differ in length, a push list has fewer than n - 1 bytes, or a buffer is too short for a text
-    /// or a listing.
+    /// A target's n differs from the group's, the two lists of bands differ in length, a push list has fewer than n - 1 bytes, a buffer is too short for a text
+    /// or a listing, or a list of an arrangement has not q × z entries.
     Fit = 2,
-    /// A record is no permutation; on a sheet to be written, it has a name past n.
+    /// A record is no permutation; on a sheet to be written, it has a name past n. An arrangement has a level outside 1 to q, or one that is not used z times.
     Muddle = 3,
     /// Two levels are equal.
     Tie = 4,
@@ -234,6 +234,16 @@ pub fn read_bands(lowest: &[u16], highest: &[u16]) -> Result<Permutation, Reason
 pub fn read_symbol_bands(lowest: &[u16], highest: &[u16], m: u64) -> Result<u64, Reason> {
     let answer = raw::read_symbol_bands(lowest, highest, m);
     given(answer.number, answer.symbol)
+}
+
+/// The cost of changing one arrangement into another. An arrangement gives each of q × z cells a level from 1 to q, each level used z times. Cells only rise, by
+/// whole levels, and then every cell of a lower new level is strictly below every cell of a higher one. The cost is how far the highest level rises above q: the
+/// largest of old level less new level, and the least possible. Into `list` go the raised levels, each cell's new level plus the cost, at most 31. All three lists
+/// have q × z entries, one for each cell. The next change takes `new` as old, and the costs add up.
+/// Refused: Size, Fit, Muddle.
+pub fn rearrange(q: usize, z: usize, old: &[u8], new: &[u8], list: &mut [u8]) -> Result<u8, Reason> {
+    let answer = raw::rearrange(q, z, old, new, list);
+    given(answer.number, answer.cost)
 }
 
 /// The whole text of a bench sheet, a faulty one's too, in the first bytes of `text`; gives their number. [`TEXT_BYTES`] are always enough. The value of a group is

@@ -77,6 +77,14 @@ pub struct Symbol {
     pub symbol: u64,
 }
 
+/// What [`rearrange`] answers: how far the highest level rises above q.
+#[repr(C)]
+#[derive(Clone, Copy, Debug, PartialEq, Eq)]
+pub struct Rearranged {
+    pub number: u8,
+    pub cost: u8,
+}
+
 /// What [`bench()`] answers: the length of the text.
 #[repr(C)]
 #[derive(Clone, Copy, Debug, PartialEq, Eq)]
@@ -103,6 +111,7 @@ const _: () = assert!(size_of::<Valued>() == 16 && offset_of!(Valued, value) == 
 const _: () = assert!(size_of::<Pushes>() == 12 && offset_of!(Pushes, pushes) == 4 && offset_of!(Pushes, charge) == 8);
 const _: () = assert!(size_of::<Reached>() == 16 && offset_of!(Reached, permutations) == 8);
 const _: () = assert!(size_of::<Symbol>() == 16 && offset_of!(Symbol, symbol) == 8);
+const _: () = assert!(size_of::<Rearranged>() == 2 && offset_of!(Rearranged, cost) == 1);
 const _: () = assert!(size_of::<Printed>() == 16 && offset_of!(Printed, length) == 8);
 const _: () = assert!(size_of::<Written>() == 16 && offset_of!(Written, length) == 8);
 
@@ -127,6 +136,16 @@ mod library {
         pub fn tm_read_symbol(levels: *const u16, n: usize, m: u64) -> Symbol;
         pub fn tm_read_bands(lowest: *const u16, n: usize, highest: *const u16, highest_length: usize) -> Permuted;
         pub fn tm_read_symbol_bands(lowest: *const u16, n: usize, highest: *const u16, highest_length: usize, m: u64) -> Symbol;
+        pub fn tm_rearrange(
+            q: usize,
+            z: usize,
+            old_levels: *const u8,
+            old_length: usize,
+            new_levels: *const u8,
+            new_length: usize,
+            list: *mut u8,
+            list_length: usize,
+        ) -> Rearranged;
         pub fn tm_bench(sheet: *const u8, length: usize, text: *mut u8, room: usize) -> Printed;
         pub fn tm_write_sheet(
             sizes: *const usize,
@@ -213,6 +232,10 @@ pub fn read_bands(lowest: &[u16], highest: &[u16]) -> Permuted {
 
 pub fn read_symbol_bands(lowest: &[u16], highest: &[u16], m: u64) -> Symbol {
     unsafe { library::tm_read_symbol_bands(lowest.as_ptr(), lowest.len(), highest.as_ptr(), highest.len(), m) }
+}
+
+pub fn rearrange(q: usize, z: usize, old: &[u8], new: &[u8], list: &mut [u8]) -> Rearranged {
+    unsafe { library::tm_rearrange(q, z, old.as_ptr(), old.len(), new.as_ptr(), new.len(), list.as_mut_ptr(), list.len()) }
 }
 
 pub fn bench(sheet: &[u8], text: &mut [u8]) -> Printed {

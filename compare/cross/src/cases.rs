@@ -36,6 +36,20 @@ pub fn permutations(n: usize) -> Vec<Vec<u8>> {
     permutations(n - 1).iter().flat_map(|names| (0..n).map(move |place| insert(names, place))).collect()
 }
 
+/// Every q and z of an arrangement, 126 of them.
+pub fn shapes() -> impl Iterator<Item = (usize, usize)> {
+    (2..=16).flat_map(|q| (1..=16).map(move |z| (q, z))).filter(|(q, z)| q * z <= 64)
+}
+
+/// All arrangements of z cells on each of q levels.
+pub fn arrangements(q: usize, z: usize) -> Vec<Vec<u8>> {
+    let levels: Vec<u8> = (1..=q as u8).collect();
+    let used = |list: &[u8], level: u8| list.iter().filter(|&&other| other == level).count();
+    let mut all = lists(&levels, q * z);
+    all.retain(|list| levels.iter().all(|&level| used(list, level) == z));
+    all
+}
+
 /// The record of at most twenty names.
 pub fn record(names: &[u8]) -> Permutation {
     Permutation::new(names).expect("at most twenty names")

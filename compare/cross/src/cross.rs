@@ -226,6 +226,18 @@ impl Cross {
         );
     }
 
+    /// The new arrangement is lent beside the old one and the list for the raised levels.
+    pub fn rearrange(&mut self, (q, z): (usize, usize), old: &[u8], new: &[u8], list: &[u8]) {
+        let case = ("rearrange", q, z, old, new, list.len());
+        self.lend(
+            &case,
+            (old, list),
+            |old, list| model::rearrange(q, z, old, new, list),
+            |old, list| rearranged(beside(Lent::guarded(new), new, &case, |new| raw::rearrange(q, z, old, new, list))),
+            |old, list| beside(Lent::exact(new), new, &case, |new| turretmedlar::rearrange(q, z, old, new, list)),
+        );
+    }
+
     /// The sheet's text is the model's, found by the caller, who may lend many buffers. A faulty sheet counts by its own number.
     pub fn bench(&mut self, sheet: &[u8], text: &[u8], buffer: &[u8]) {
         let done = self.lend(
@@ -271,6 +283,13 @@ impl Cross {
     }
 }
 
+/// Lends one more list to a job, which must leave it as it was.
+fn beside<T: Entry, A>(mut lent: Lent<T>, list: &[T], case: &dyn Debug, job: impl FnOnce(&[T]) -> A) -> A {
+    let answer = job(lent.list());
+    lent.check(list, case);
+    answer
+}
+
 type Record = (usize, [u8; 20]);
 
 /// The model's record.
@@ -314,6 +333,10 @@ fn reached(answer: raw::Reached) -> (u8, usize) {
 
 fn symbol(answer: raw::Symbol) -> (u8, u64) {
     (answer.number, answer.symbol)
+}
+
+fn rearranged(answer: raw::Rearranged) -> (u8, u8) {
+    (answer.number, answer.cost)
 }
 
 fn printed(answer: raw::Printed) -> (u8, usize) {

@@ -41,6 +41,11 @@ impl Random {
         names
     }
 
+    /// z cells on each of q levels, shuffled; at most 255 cells.
+    pub fn arrangement(&mut self, q: usize, z: usize) -> Vec<u8> {
+        self.names(q * z).into_iter().map(|name| (name - 1) / z as u8 + 1).collect()
+    }
+
     /// Levels that read as these names, with random gaps below the top, which is n - 1 at least.
     pub fn levels(&mut self, names: &[u8], top: u16) -> Vec<u16> {
         let mut levels = vec![0; names.len()];

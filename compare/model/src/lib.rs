@@ -1,4 +1,4 @@
-//! A model of document 01, with requests 1 to 4 and 6 to 10 of document 02, in plain Rust: the other side of differential tests, and the plain side of
+//! A model of document 01, with requests 1 to 4 and 6 to 11 of document 02, in plain Rust: the other side of differential tests, and the plain side of
 //! benchmarks.
 //!
 //! It is written from the sentences of these documents alone, with lists, sorting and searching, and keeps no table.
@@ -6,6 +6,7 @@
 
 #![forbid(unsafe_code)]
 
+mod arrangements;
 mod bands;
 mod levels;
 mod permutations;
@@ -21,6 +22,7 @@ mod zero;
 #[cfg(test)]
 mod tests;
 
+pub use arrangements::rearrange;
 pub use bands::{read_bands, read_symbol_bands};
 pub use levels::{count_up, push_level, read, rewrite, Spent};
 pub use permutations::{digits, push, rank, rank_by_weights, successor, unrank, NextStep, Permutation};

@@ -21,6 +21,8 @@ const SIZES: [usize; 3] = [4, 8, 20];
 const COUNTS: [(u32, &str, usize); 3] = [(1, "1", INPUTS), (100, "100", INPUTS / 10), (60_000, "60,000", 10)];
 /// Of listings: n, r, and the number of inputs, fewer where a call takes long. None is longer than that of eight cells.
 const LISTINGS: [(usize, usize, usize); 3] = [(4, 2, INPUTS), (8, 5, 10), (20, 2, 100)];
+/// Of arrangements: q and z.
+const ARRANGEMENTS: [(usize, usize); 2] = [(4, 2), (16, 4)];
 /// Files of bench sheets, each with what it has and the passes of a round.
 const SHEETS: [(&str, &str, usize); 5] = [
     ("paper", "document 01's, 1 group, 3 commands", 500),
@@ -59,6 +61,9 @@ pub fn benchmarks() -> Vec<Benchmark> {
     }
     for (n, r, count) in LISTINGS {
         list.push(Benchmark { name: format!("within_reach, r = {r}"), n: Some(n), passes: 1, build: Box::new(move || within_reach(n, r, count)) });
+    }
+    for (q, z) in ARRANGEMENTS {
+        list.push(Benchmark { name: format!("rearrange, q = {q}, z = {z}"), n: Some(q * z), passes: 1, build: Box::new(move || rearrange(q, z)) });
     }
     list.extend(SHEETS.map(|row| of_sheet("sheet", bench, row)));
     list.extend(SHEETS.into_iter().filter(|row| WRITTEN.contains(&row.0)).map(|row| of_sheet("write", write, row)));
@@ -231,26 +236,39 @@ fn stores(n: usize, symbol: impl Fn(&mut Random, &[u16]) -> u64) -> Box<dyn Pair
     )
 }
 
-/// The lent list, which the first call makes as long as the listing, and how many permutations it has.
+/// A lent list, which the first call makes as long as it is to be, and what is given beside it: how many permutations it has, or the cost.
 #[derive(Debug, Default, PartialEq)]
-struct Listing {
+struct Listed {
     list: Vec<u8>,
-    permutations: usize,
+    given: usize,
 }
 
-fn listed(n: usize, r: usize, job: impl Fn(&[u16], &mut [u8]) -> usize) -> impl Fn(&[u16; 20], &mut Listing) {
-    let bytes = n * falling(n, r) as usize;
-    move |levels, listing| {
-        listing.list.resize(bytes, 0);
-        listing.permutations = job(&levels[..n], &mut listing.list);
+fn listed<I>(bytes: usize, job: impl Fn(&I, &mut [u8]) -> usize) -> impl Fn(&I, &mut Listed) {
+    move |input, listed| {
+        listed.list.resize(bytes, 0);
+        listed.given = job(input, &mut listed.list);
     }
 }
 
 fn within_reach(n: usize, r: usize, count: usize) -> Box<dyn Pair> {
+    let bytes = n * falling(n, r) as usize;
     pair(
         inputs(count, |random| levels(random, n)),
-        listed(n, r, move |levels, list| turretmedlar::within_reach(levels, r, list).unwrap()),
-        listed(n, r, move |levels, list| model::within_reach(levels, r, list).unwrap()),
+        listed(bytes, move |levels: &[u16; 20], list| turretmedlar::within_reach(&levels[..n], r, list).unwrap()),
+        listed(bytes, move |levels: &[u16; 20], list| model::within_reach(&levels[..n], r, list).unwrap()),
+    )
+}
+
+/// The old and the new arrangement.
+pub fn two_arrangements(random: &mut Random, q: usize, z: usize) -> [Vec<u8>; 2] {
+    [(); 2].map(|_| random.arrangement(q, z))
+}
+
+fn rearrange(q: usize, z: usize) -> Box<dyn Pair> {
+    pair(
+        inputs(INPUTS, |random| two_arrangements(random, q, z)),
+        listed(q * z, move |[old, new]: &[Vec<u8>; 2], list| turretmedlar::rearrange(q, z, old, new, list).unwrap().into()),
+        listed(q * z, move |[old, new]: &[Vec<u8>; 2], list| model::rearrange(q, z, old, new, list).unwrap().into()),
     )
 }
 

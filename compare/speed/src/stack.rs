@@ -1,5 +1,5 @@
 //! The least stack on which some jobs run, by a thread of a process of its own: a stack that is too small ends it.
-use crate::benchmarks::{bands, levels, sheet};
+use crate::benchmarks::{bands, levels, sheet, two_arrangements};
 use cross::cases::{factorial, record};
 use cross::{held, Random};
 use std::process::{Command, Stdio};
@@ -10,7 +10,7 @@ pub const STACK: &str = "stack";
 
 const STEP: usize = 16;
 
-const JOBS: [(&str, fn()); 13] = [
+const JOBS: [(&str, fn()); 14] = [
     ("rank", || done(turretmedlar::rank(permutation()))),
     ("unrank", || done(turretmedlar::unrank(20, factorial(20) - 1))),
     ("value", || done(turretmedlar::value(permutation(), turretmedlar::Zero::New))),
@@ -20,6 +20,7 @@ const JOBS: [(&str, fn()); 13] = [
     ("store", || done(turretmedlar::store(&mut low(), factorial(20), factorial(20) - 1))),
     ("read_symbol_bands", || done(turretmedlar::read_symbol_bands(&sure()[0], &sure()[1], factorial(20)))),
     ("within_reach, 7 cells, r = 6", || done(turretmedlar::within_reach(&low()[..7], 6, &mut vec![0; 65_536]))),
+    ("rearrange, 64 cells on 16 levels", rearrange),
     ("bench, 1,000 rewrites", || bench("longest")),
     ("bench, 1,000 stores", || bench("thousand-stores")),
     ("write_sheet, 1,000 rewrites", || write("longest")),
@@ -36,6 +37,12 @@ fn low() -> [u16; 20] {
 
 fn sure() -> [[u16; 20]; 2] {
     bands(&mut Random::seeded(0), 20)
+}
+
+/// The two arrangements are not on the stack.
+fn rearrange() {
+    let [old, new] = two_arrangements(&mut Random::seeded(0), 16, 4);
+    done(turretmedlar::rearrange(16, 4, &old, &new, &mut [0; 64]));
 }
 
 /// The sheet and the text are not on the stack.

@@ -2,11 +2,11 @@
 ghost use mathlib.Core.Path.{_≡_};
 ghost use Rattle.theory.specs.Refusal.{sizeWithin};
 
-// "n is below 2 or above 20": no group has that many cells
+// "n is below 2 or above 20": no group has that many cells, or no arrangement such sizes
 pub const SIZE: u8 = 1;
-// another n than the group's, two lists of different length, or a lent list that is too short
+// another n than the group's, two lists of different length, a lent list that is too short, or one of another length than an arrangement
 pub const FIT: u8 = 2;
-// no permutation
+// no permutation, or no arrangement
 pub const MUDDLE: u8 = 3;
 // two equal charge levels
 pub const TIE: u8 = 4;

@@ -48,7 +48,9 @@ pub const REACH_SUM: u8 = 23;
 
 pub const OF_VALUE: u8 = 24;
 
-pub const NO_JOB: u8 = 25;
+pub const REARRANGE: u8 = 25;
+
+pub const NO_JOB: u8 = 26;
 
 // A space past the line.
 fn letter(line: &[u8], i: usize) -> u8 {
@@ -81,10 +83,11 @@ fn job_of_reach(sixth: u8) -> u8 {
 }
 
 fn job_of_re(line: &[u8]) -> u8 {
-    if letter(line, 3) == b'c' {
-        return job_of_reach(letter(line, 5));
+    match letter(line, 3) {
+        b'c' => job_of_reach(letter(line, 5)),
+        b'r' => REARRANGE,
+        _ => job_of_read(line),
     }
-    job_of_read(line)
 }
 
 fn job_of_run(fifth: u8) -> u8 {

@@ -1,5 +1,6 @@
 // A line of the input: its first word names the job, and the numbers after it are the job's input.
 ghost use Prim.Native.Nat.{_≤_};
+use super::arrangement_jobs::on_rearrange;
 use super::band_jobs::on_bands;
 use super::job_names::DIGITS;
 use super::job_names::NO_JOB;
@@ -12,6 +13,7 @@ use super::job_names::REACH_SUM;
 use super::job_names::READ;
 use super::job_names::READ_BANDS;
 use super::job_names::READ_SYMBOL_BANDS;
+use super::job_names::REARRANGE;
 use super::job_names::REWRITE;
 use super::job_names::RUN_CALLS;
 use super::job_names::RUN_STEPS;
@@ -81,7 +83,14 @@ fn on_permutation(
 }
 
 // What the job gives.
-fn reply(text: &mut Text, at: usize, job: u8, numbers: &Numbers, count: usize) -> usize {
+fn reply(
+    text: &mut Text,
+    at: usize,
+    job: u8,
+    line: &[u8],
+    numbers: &Numbers,
+    count: usize,
+) -> usize {
     if job < READ {
         let permutation = record_from(numbers, before(job));
         return on_permutation(text, at, job, numbers[0], numbers[1], permutation);
@@ -95,6 +104,7 @@ fn reply(text: &mut Text, at: usize, job: u8, numbers: &Numbers, count: usize) -
         READ_BANDS..=READ_SYMBOL_BANDS => on_bands(text, at, job, numbers, count),
         REACH..=REACH_SUM => on_reach(text, at, job, numbers, count),
         OF_VALUE => on_of_value(text, at, numbers),
+        REARRANGE => on_rearrange(text, at, numbers, line),
         _ => on_levels(text, at, job, numbers, count),
     }
 }
@@ -110,7 +120,7 @@ fn answered(text: &mut Text, end: usize, line: &[u8]) -> usize {
     }
     let mut numbers = [0u64; 64];
     let count = read_numbers(line, &mut numbers);
-    let to = reply(text, end - 1, job, &numbers, count);
+    let to = reply(text, end - 1, job, line, &numbers, count);
     put(text, to, b'\n')
 }
 

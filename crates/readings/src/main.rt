@@ -1,5 +1,6 @@
-// The bench readings of document 01 and the examples of documents 02 and 001, executed. Each line of standard input names a job and its input; the
+// The bench readings of document 01 and the examples of documents 02, 001 and 000, executed. Each line of standard input names a job and its input; the
 // program writes the line and what the job gives. It reads 65,536 bytes at most. The file `stdout` holds what the documents say, and `expected.py` how it was found.
+mod arrangement_jobs; // one arrangement changed into another
 mod band_jobs; // the jobs on bands
 mod held_sheet; // a held sheet from the numbers of a line
 mod job_names; // which job a line names

@@ -6,7 +6,7 @@ use native.Mathlib.Omega.{arith}
 use lib.ListN.{length, getD}
 use Rattle.theory.specs.Levels.{level, highest, lowest}
 
-entry≤highest : (L : List ℕ) (i : ℕ) → getD L i 0 ≤ highest L
+pub entry≤highest : (L : List ℕ) (i : ℕ) → getD L i 0 ≤ highest L
 entry≤highest [] i = omega arith
 entry≤highest (a ∷ L) zero = omega arith
 entry≤highest (a ∷ L) (suc i) = omega (arith, entry≤highest L i)

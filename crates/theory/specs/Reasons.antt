@@ -7,16 +7,16 @@ use lib.Dec.{leb}
 abbrev pub done : ℕ
 done = 0
 
--- "n is below 2 or above 20, for the group first, then for a target"
+-- "n is below 2 or above 20, for the group first, then for a target"; document 02, request 11: "Sizes outside the ranges are size"
 abbrev pub size : ℕ
 size = 1
 
 -- "target's n differs from the group's, or a push list has fewer than n - 1 bytes"; document 02, request 4: "lists of different length are fit";
--- request 6: "a lent list shorter than the listing is fit"
+-- request 6: "a lent list shorter than the listing is fit"; request 11: "lists without q × z entries are fit"
 abbrev pub fit : ℕ
 fit = 2
 
--- "an order record is not as described above"
+-- "an order record is not as described above"; document 02, request 11: "a wrong arrangement is muddle"
 abbrev pub muddle : ℕ
 muddle = 3
 

@@ -12,6 +12,7 @@ ghost use Rattle.rewriting.specs.Answers.{rewriteAnswer, rewriteLevels, rewrite
 ghost use Rattle.symbols.specs.Answers.{storeAnswer, storeLevels, StoreOf, symbolAnswer};
 ghost use Rattle.bands.specs.Answers.{sureAnswer, OrderExactly, sureSymbolAnswer, SymbolExactly};
 ghost use Rattle.reach.specs.Answers.{reachAnswer, reachList, ReachOf};
+ghost use Rattle.multicell.specs.Answers.{rearrangeAnswer, rearrangeList, RaiseOf};
 ghost use Rattle.sheet.specs.Sheet.{sheet as contents};
 ghost use Rattle.layout.specs.Text.{textOf};
 ghost use Rattle.text.specs.Answers.{printAnswer, printedOn};
@@ -25,6 +26,8 @@ use charge::count_up::count_up;
 use charge::push_level::push_level;
 use charge::read::read;
 use listing::write_lists::write_lists;
+use multicell::answers::Rearranged;
+use multicell::rearrange::rearrange;
 use permutation::answers::Permutation;
 use permutation::answers::Permuted;
 use permutation::answers::Placed;
@@ -173,6 +176,21 @@ pub extern "C" fn tm_within_reach(levels: &[u16], r: usize, list: &mut [u8]) -> 
     ensures reaching { λ a. ⌜ ReachOf (now (levels .entry)) r a (now (list .exit)) ⌝ }
 {
     within_reach(levels, r, list)
+}
+
+#[no_mangle]
+pub extern "C" fn tm_rearrange(
+    q: usize,
+    z: usize,
+    old: &[u8],
+    new: &[u8],
+    list: &mut [u8],
+) -> Rearranged
+    ensures answer { λ r. ⌜ r ≡ rearrangeAnswer q z (now (old .entry)) (now (new .entry)) (length (now (list .entry))) ⌝ }
+    ensures list_left { λ _. ⌜ now (list .exit) ≡ rearrangeList q z (now (old .entry)) (now (new .entry)) (now (list .entry)) ⌝ }
+    ensures least { λ r. ⌜ RaiseOf q (now (old .entry)) (now (new .entry)) r (now (list .exit)) ⌝ }
+{
+    rearrange(q, z, old, new, list)
 }
 
 #[no_mangle]

@@ -1,6 +1,6 @@
 //! Bands instead of levels: document 02, request 4.
 
-use super::{permutation, permutations, prefixes};
+use super::{choose, permutation, permutations, prefixes};
 use crate::levels::level;
 use crate::symbols::prefix_length;
 use crate::Reason::{self, Fit, Idle, Size, Unsure, Value};
@@ -68,7 +68,6 @@ fn check_by_choices(n: usize, most: u16) -> usize {
 /// l1 <= h1 < l2 <= h2 < .. is l1 < h1 + 1 < l2 + 1 < h2 + 2 < ..
 #[test]
 fn held_to_every_choice() {
-    let choose = |from: usize, count: usize| (0..count).fold(1, |ways, taken| ways * (from - taken) / (taken + 1));
     for (n, most) in [(2, 6), (3, 5), (4, 4)] {
         let levels = usize::from(most) + 1;
         assert_eq!(check_by_choices(n, most), permutations(n).len() * choose(levels + n, 2 * n), "{n} cells");

@@ -1,5 +1,6 @@
 //! The model, held to the definitions and claims of documents 01 and 02.
 
+mod arrangements;
 mod bands;
 mod changes;
 mod charge;
@@ -29,6 +30,11 @@ fn prefixes(n: usize, p: usize) -> Vec<Vec<u8>> {
 /// All permutations of n cells, in lexicographic sequence.
 fn permutations(n: usize) -> Vec<Vec<u8>> {
     prefixes(n, n)
+}
+
+/// How many ways there are to take so many out of so many.
+fn choose(from: usize, count: usize) -> usize {
+    (0..count).fold(1, |ways, taken| ways * (from - taken) / (taken + 1))
 }
 
 fn permutation(names: &[u8]) -> Permutation {
