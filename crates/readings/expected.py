@@ -1,5 +1,5 @@
 #!/usr/bin/env python3
-"""What the program `readings` must write for its `stdin`, worked out from documents 01, 02 and 001 alone, by `model.py`.
+"""What the program `readings` must write for its `stdin`, worked out from documents 01, 02, 001 and 000 alone, by `model.py`.
 
 What the documents print, and what was found from them by hand, is typed below as data: the model is checked against it, and `stdin` must have those readings,
 before a line is written.

@@ -1,6 +1,7 @@
 """A model of document 01's rules on lists, as the paper words them, with the storing rule of document 02's request 1 in place of its own, the writing of request 2,
-the charge of request 3, the bands of request 4, the listing of request 6, the zeros of request 7, the change of request 8, the tests of request 9 and the weights
-of request 10; nothing of the code. `expected.py` checks it against what documents 01, 02 and 001 print; the sheets of `sheets` are worked and written by it too."""
+the charge of request 3, the bands of request 4, the listing of request 6, the zeros of request 7, the change of request 8, the tests of request 9, the weights
+of request 10 and the arrangements of request 11; nothing of the code. `expected.py` checks it against what documents 01, 02, 001 and 000 print; the sheets of
+`sheets` are worked and written by it too."""
 from itertools import chain, product, repeat
 from math import factorial, perm, prod
 
