@@ -4,14 +4,14 @@ ghost use Rattle.permutation.specs.Answers.{no_permutation};
 
 // Document 01: an order. The first n places hold each of 1 to n once, highest charge first; the places past n hold 0.
 #[repr(C)]
-#[derive(Drop)]
+#[derive(Clone, Copy)]
 pub struct Permutation {
     pub n: usize,
     pub cells: [u8; 20],
 }
 
 #[repr(C)]
-#[derive(Drop)]
+#[derive(Clone, Copy)]
 pub struct Permuted {
     pub number: u8,
     pub permutation: Permutation,
@@ -19,7 +19,7 @@ pub struct Permuted {
 
 // The place that the next step pushes, and what decided it (document 02, request 9).
 #[repr(C)]
-#[derive(Drop)]
+#[derive(Clone, Copy)]
 pub struct Placed {
     pub number: u8,
     pub place: usize,

@@ -1,4 +1,6 @@
 // Permutations of a group's cells: push and successor. Each answer is proved equal to a meaning of `specs/Answers`, for every input.
+#![tactic(auto)]
+
 pub mod answers; // the record and the answers
 pub mod cell; // a byte of a row as a wider number
 pub mod insert; // a cell put in among others

@@ -9,7 +9,7 @@ use super::cell::wide;
 use super::reasons::{MUDDLE, SIZE, size_within};
 
 // SIZE, MUDDLE, or 0 for a permutation. The spots are by cell name: 20, which is no spot, for a name that stands nowhere, and zeros beside a refusal.
-#[derive(Drop)]
+#[derive(Clone, Copy)]
 pub struct Checked {
     pub number: u8,
     pub spots: [u8; 21],

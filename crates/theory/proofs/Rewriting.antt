@@ -103,7 +103,7 @@ pub top_sublist : (c : ℕ) (s xs : List ℕ) → member c xs ≡ true → top x
 top_sublist c s [] m q out k = absurd (false≢true m)
 top_sublist c [] (x ∷ xs) m q out k = ListSublistᴰ.cons-cons (sym q) (ListSublistᴰ.nil-sublist xs)
 top_sublist c (b ∷ s) (x ∷ xs) m q out k =
-    ListSublistᴰ.cons-cons (sym q) (skip_sublist (λ e. false≢true (sym out ∙ rw (sym q ∙ sym e) (member_first b s))) k)
+    ListSublistᴰ.cons-cons (sym q) (skip_sublist (λ e. false≢true (sym out ∙ ap (λ (d : ℕ). member d (b ∷ s)) (sym q ∙ sym e) ∙ member_first b s)) k)
 
 module _ (xs t : List ℕ) (dx : Distinct xs) (dt : Distinct t) (same : Same xs t) where
   -- the first cell to push is not on top: else it would stand in sequence before the others
