@@ -8,7 +8,7 @@ import sys
 from collections import defaultdict
 from pathlib import Path
 
-LIBRARY = Path(__file__).resolve().parent.parent / "target/staticlib/libturretmedlar.a"
+LIBRARY = Path(__file__).resolve().parent.parent / "crates/turretmedlar/out/libturretmedlar.a"
 DIVIDES = {"tm_digits": False, "tm_rank": False, "tm_unrank": True}
 # Each function has a section, which is named after it.
 SECTION = re.compile(r"^Disassembly of section (?:\.text\.)?(.+):$", re.M)

@@ -16,16 +16,16 @@ from pathlib import Path
 from subprocess import PIPE
 
 ROOT = Path(__file__).resolve().parent.parent
-COMMAND, PROGRAM, SHEETS, PAPER = ROOT / "bench", ROOT / "target/bin/bench", ROOT / "crates/sheets", ROOT / "sheets/paper"
+COMMAND, PROGRAM, SHEETS, PAPER = ROOT / "bench", ROOT / "crates/bench/out/bench", ROOT / "crates/sheets", ROOT / "sheets/paper"
 AT_ONCE = 6
 LIMIT = 1800  # seconds, for what would never end; the first build takes some minutes
 # As `rt` may, it fails where another works at the same time; otherwise it takes its time and puts the program there.
 RT = """#!/bin/sh
-mkdir target/busy || { echo NOT PROVED; exit 1; }
-echo run >>runs
+mkdir ../../target/busy || { echo NOT PROVED; exit 1; }
+echo run >>../../runs
 sleep 0.5
-mkdir -p target/bin && cp program target/bin/new && mv target/bin/new target/bin/bench
-rmdir target/busy
+mkdir -p out && cp ../../program out/new && mv out/new out/bench
+rmdir ../../target/busy
 """
 
 
