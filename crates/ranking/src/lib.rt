@@ -1,5 +1,7 @@
 // Ranks of permutations: digits, rank and unrank; and values, which are ranks counted from a zero. Each answer is proved equal to a meaning of `specs/Answers`, for
 // every input.
+#![tactic(auto)]
+
 pub mod answers; // what the jobs answer
 pub mod digits; // the b-factoradic digits
 pub mod factorials; // the table of factorials, and their quotients

@@ -6,7 +6,7 @@ ghost use Rattle.ranking.specs.Zeros.{zero_permutation, zero_number, numbered_ze
 use permutation::reasons::VALUE;
 
 // Old, the permutation of rank 0, which modules already in cellars keep; or new, [1, 2, .., n].
-#[derive(Drop)]
+#[derive(Clone, Copy)]
 pub enum Zero {
     Old,
     New,

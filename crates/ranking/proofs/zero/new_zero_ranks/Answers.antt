@@ -3,12 +3,8 @@ use mathlib.Core.Path.{refl}
 use Rattle.theory.specs.Permutation.{place_of}
 use Rattle.theory.specs.Rank.{digit, remaining, rank}
 use Rattle.ranking.specs.Zeros.{new_zero_ranks}
-use Rattle.ranking.proofs.zero.new_zero_ranks.Statement.{statement}
-use Rattle.ranking.proofs.zero.new_zero_ranks.Tie as tie
+use Rattle.ranking.proofs.zero.new_zero_ranks.Goals as goal
 
-returns : tie.Need-returns
+pub returns : goal.returns
 unfolding new_zero_ranks place_of digit remaining rank
 returns c = refl
-
-pub new-zero-ranks-spec : {M : Type 1} → statement M
-new-zero-ranks-spec = tie.close (tie.spec returns)
