@@ -1,6 +1,6 @@
 -- The zeros of groups, from the numbers of those on the new zero, and the loop that goes through these. Assumes nothing.
 use mathlib.Core.Path.{◌≡◌, refl, sym, ap, ap₂, ◌∙◌}
-use mathlib.Core.Bool.{true, false, ◌&&◌, ◌||◌, or-false}
+use mathlib.Core.Bool.{Bool, true, false, cond, or-false}
 use mathlib.Core.List.{List, [], ◌∷◌, ◌++◌, map}
 use Prim.Native.Nat.{ℕ, zero, suc, ◌+◌, ◌-◌, ◌≤◌, ◌<◌}
 use native.Mathlib.Numerals.{add-one}
@@ -12,8 +12,8 @@ use Rattle.theory.specs.Lists.{member, names_from, padded}
 use Rattle.theory.proofs.Cases.{by_test}
 use Rattle.theory.proofs.Members.{member_append}
 use Rattle.theory.proofs.Names.{names_length}
-use Rattle.ranking.specs.declared.zero.Zero.TheVariants.{New}
-use Rattle.sheet.specs.Bytes.{ill_formed, fault, got, check}
+use Rattle.ranking.specs.declared.zero.Zero.TheVariants.{Old, New}
+use Rattle.sheet.specs.Bytes.{ill_formed, got, check}
 use Rattle.sheet.specs.ZeroSection.{on_zero, on_old, rising, zero_among, zeros_of}
 use Rattle.sheet.specs.Parts.{zeros_answer, named_answer}
 use Rattle.sheet.specs.declared.held.GroupZero.{GroupZero}
@@ -37,9 +37,10 @@ set_among : (ns : List ℕ) (a n j g : ℕ) → a + j ≡ g → j < n
     → set (map (zero_among ns) (names_from a n)) j (on_zero New) ≡ map (zero_among (ns ++ g ∷ [])) (names_from a n)
 set_among ns a zero j g e h = absurd (omega arith)
 set_among ns a (suc n) zero g e h =
-    let is : g ≡ a = omega arith in
-    let there : member a (ns ++ a ∷ []) ≡ true = member_append a ns (a ∷ []) ∙ rw (eq-eqb a a refl) (by_test (member a ns) (λ t. rw t) (λ t. rw t)) in
-    rw (is, there, among_same (ns ++ a ∷ []) ns (suc a) n (λ c low. member_last c a ns (λ q. omega arith)))
+    let is : a ≡ g = omega arith in
+    let there : member a (ns ++ g ∷ []) ≡ true = member_append a ns (g ∷ []) ∙ rw (eq-eqb a g is) (by_test (member a ns) (λ t. rw t) (λ t. rw t)) in
+    let same = among_same (ns ++ g ∷ []) ns (suc a) n (λ c low. member_last c g ns (λ q. omega arith)) in
+    ap₂ (λ (t : Bool) (l : List GroupZero). on_zero (cond t New Old) ∷ l) (sym there) (sym same)
 set_among ns a (suc n) (suc j) g e h = rw (member_last a g ns (λ q. omega arith), ← set_among ns (suc a) n j g (omega arith) (omega arith))
 
 same_old : (a n : ℕ) → replicate n on_old ≡ map (zero_among []) (names_from a n)

@@ -12,7 +12,7 @@ use permutation::cell::wide;
 use permutation::reasons::SHEET;
 
 // A command and the place after it, or the number of a fault.
-#[derive(Drop)]
+#[derive(Clone, Copy)]
 pub struct EntryRead {
     pub number: u8,
     pub entry: Entry,

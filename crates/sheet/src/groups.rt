@@ -12,7 +12,7 @@ use permutation::cell::wide;
 use permutation::reasons::{SHEET, SIZE, TIE, size_within};
 
 // A group and the place after it, or the number of a fault.
-#[derive(Drop)]
+#[derive(Clone, Copy)]
 pub struct GroupRead {
     pub number: u8,
     pub group: Group,

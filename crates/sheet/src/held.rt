@@ -8,26 +8,26 @@ use permutation::answers::Permutation;
 use ranking::zero::Zero;
 
 // n cells, and their levels by name.
-#[derive(Drop)]
+#[derive(Clone, Copy)]
 pub struct Group {
     pub n: usize,
     pub levels: [u16; 20],
 }
 
-#[derive(Drop)]
+#[derive(Clone, Copy)]
 pub struct Groups {
     pub count: usize,
     pub list: [Group; 64],
 }
 
 // The zero of a group. In a struct of its own, since Rattle's borrow checker covers no field that is a row of enums.
-#[derive(Drop)]
+#[derive(Clone, Copy)]
 pub struct GroupZero {
     pub zero: Zero,
 }
 
 // What a command asks for, by its kind.
-#[derive(Drop)]
+#[derive(Clone, Copy)]
 pub enum Action {
     Count(u32),
     Rewrite,
@@ -36,21 +36,21 @@ pub enum Action {
     ChangeZero,
 }
 
-#[derive(Drop)]
+#[derive(Clone, Copy)]
 pub struct Command {
     pub group: u8,
     pub action: Action,
 }
 
 // A command, and beside it the target of a rewrite.
-#[derive(Drop)]
+#[derive(Clone, Copy)]
 pub struct Entry {
     pub command: Command,
     pub target: Permutation,
 }
 
 // The zeros are those on which the groups start, by group number.
-#[derive(Drop)]
+#[derive(Clone, Copy)]
 pub struct Sheet {
     pub groups: Groups,
     pub zeros: [GroupZero; 64],
@@ -58,7 +58,7 @@ pub struct Sheet {
     pub entries: [Entry; 1000],
 }
 
-#[derive(Drop)]
+#[derive(Clone, Copy)]
 pub struct SheetRead {
     pub number: u8,
     pub sheet: Sheet,

@@ -9,7 +9,7 @@ use permutation::reasons::SHEET;
 use ranking::zero::Zero;
 
 // The zeros of all groups, or the number of a fault.
-#[derive(Drop)]
+#[derive(Clone, Copy)]
 pub struct ZerosRead {
     pub number: u8,
     pub zeros: [GroupZero; 64],
