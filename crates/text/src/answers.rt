@@ -2,7 +2,7 @@
 
 // The length of the text, or a number and 0.
 #[repr(C)]
-#[derive(Drop)]
+#[derive(Clone, Copy)]
 pub struct Printed {
     pub number: u8,
     pub length: usize,

@@ -21,7 +21,7 @@ use sheet::held::{Action, Group, GroupZero, Groups, Sheet, no_groups, old_zeros}
 use symbols::store::store;
 
 // What a command did on its group.
-#[derive(Drop)]
+#[derive(Clone, Copy)]
 struct Acted {
     answer: Pushes,
     group: Group,

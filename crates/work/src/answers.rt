@@ -3,7 +3,7 @@ use charge::answers::Pushes;
 use sheet::held::{GroupZero, Groups};
 
 // What the commands did, one answer each, and the groups that they left, with the zero and the value of each. Past the counts stand zeros, and the old zero.
-#[derive(Drop)]
+#[derive(Clone, Copy)]
 pub struct Outcome {
     pub count: usize,
     pub answers: [Pushes; 1000],
@@ -12,7 +12,7 @@ pub struct Outcome {
     pub values: [u64; 64],
 }
 
-#[derive(Drop)]
+#[derive(Clone, Copy)]
 pub struct Worked {
     pub number: u8,
     pub outcome: Outcome,

@@ -2,7 +2,7 @@
 
 // The length of the sheet, or a number and 0.
 #[repr(C)]
-#[derive(Drop)]
+#[derive(Clone, Copy)]
 pub struct Written {
     pub number: u8,
     pub length: usize,
