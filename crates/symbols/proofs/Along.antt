@@ -1,5 +1,5 @@
 -- The levels of cells along a row: each of them, the highest, and whether two are equal. Assumes nothing.
-use mathlib.Core.Path.{◌≡◌, refl, ap, sym, ◌∙◌}
+use mathlib.Core.Path.{◌≡◌, refl, ap, sym, ◌∙◌, subst}
 use mathlib.Core.Bool.{true, false, false≢true}
 use mathlib.Core.List.{List, [], ◌∷◌, map}
 use Prim.Native.Nat.{ℕ, zero, suc, ◌≤◌, ◌<◌}
@@ -57,7 +57,7 @@ module _ (L : List ℕ) where
   along_member c [] m = absurd (false≢true m)
   along_member c (x ∷ xs) m =
       by_name c x
-      (λ q e. rw q (member_first (level L x) (map (level L) xs)))
+      (λ q e. subst (λ (d : ℕ). member (level L d) (map (level L) (x ∷ xs)) ≡ true) (sym q) (member_first (level L x) (map (level L) xs)))
       (λ ne e. member_later (level L c) (level L x) (map (level L) xs) (along_member c xs (rw e at m)))
 
   along_absent : (v : ℕ) (xs : List ℕ) → ((d : ℕ) → member d xs ≡ true → v ≡ level L d → ⊥) → member v (map (level L) xs) ≡ false

@@ -1,4 +1,6 @@
 // Store a symbol, read one. Each answer, and the levels at exit, are proved equal to a meaning of `specs/Answers`, for every input.
+#![tactic(auto)]
+
 pub mod answers; // what reading a symbol and the prefix of a symbol answer
 pub mod code; // what a code is judged by
 pub mod number; // the number of the prefix that leads a permutation
