@@ -11,7 +11,6 @@ use lib.ListN.{length, length-append, length-map}
 use borrow.Author.Tests.{eq-eqb, ne_eqb}
 use Rattle.theory.specs.Lists.{member, without}
 use Rattle.theory.specs.Factorial.{falling}
-use Rattle.theory.specs.Permutation.{top}
 use Rattle.theory.specs.Rewrite.{rewrite_count}
 use Rattle.theory.specs.Prefix.{prefixes}
 use Rattle.theory.proofs.Cases.{by_test, by_name, eqb_sym}
@@ -138,7 +137,7 @@ module _ {x : ℕ} {xs free : List ℕ} (v : Named free (x ∷ xs)) where
 pub distance_none : {free : List ℕ} (xs : List ℕ) → Named free xs → at_distance free xs 0 ≡ xs ∷ []
 unfolding at_distance prefixes rewrite_count
 distance_none [] v = rw (sym v.cells.long)
-distance_none (x ∷ xs) v = none_more v (distance_none xs (under_top v))
+distance_none {free} (x ∷ xs) v = none_more v (distance_none {free = without (x ∷ []) free} xs (under_top v))
 
 -- ---- more pushes away
 

@@ -32,7 +32,7 @@ in_at [] m = absurd (Memᴰ.not-nil m)
 in_at {t} (u ∷ ts) m =
     ⊎_elim
     (λ e. record { index = 0; within = omega arith; here = sym e })
-    (λ k. let f : At t ts = in_at ts k in record { index = suc f.index; within = omega (arith, f.within); here = f.here })
+    (λ k. let f : At t ts = in_at {t = t} ts k in record { index = suc f.index; within = omega (arith, f.within); here = f.here })
     (Memᴰ.cases_cons m)
 
 -- ---- those that a test keeps
