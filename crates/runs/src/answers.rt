@@ -1,7 +1,7 @@
 // What runs of steps answer: a number first, 0 where the run is done.
 use permutation::answers::Permutation;
 
-#[derive(Drop)]
+#[derive(Clone, Copy)]
 pub struct Ran {
     pub number: u8,
     pub permutation: Permutation,
@@ -14,7 +14,7 @@ pub struct Ran {
 }
 
 // A run on levels.
-#[derive(Drop)]
+#[derive(Clone, Copy)]
 pub struct RanLevels {
     pub number: u8,
     pub pushes: u32,

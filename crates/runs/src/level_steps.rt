@@ -14,7 +14,7 @@ use permutation::successor::successor;
 use ranking::rank::rank;
 
 // What a step did: the cell that it pushed, by how much it raised it, and the highest level less the lowest after it.
-#[derive(Drop)]
+#[derive(Clone, Copy)]
 struct Stepped {
     cell: usize,
     raise: u16,
