@@ -1,5 +1,7 @@
 // Symbols used unevenly (document 02, request 12): the prefix of a weighted symbol, a symbol stored, and one read. Each answer, and the levels at exit, are
 // proved equal to a meaning of `specs/Answers`, for every input.
+#![tactic(auto)]
+
 mod by_weight; // symbols from heavy to light
 mod codebook; // the code
 mod judge; // what a job is refused for by its numbers alone
