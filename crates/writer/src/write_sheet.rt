@@ -28,6 +28,6 @@ pub fn write_sheet(sheet: Sheet, out: &mut [u8]) -> Written
             length: 0,
         };
     }
-    bytes::copy(&page[..length], out);
+    out[..length].copy_from_slice(&page[..length]);
     Written { number: 0, length }
 }
