@@ -1,9 +1,9 @@
 #!/usr/bin/env python3
 """Checks that what README.md, docs/*.md and docs/map/*.md name exists; docs/landings/ tells what was and is left out. What stands in back quotes must be one of
 
-- a path, whole or its last parts: `docs/map/01.md`, `speed/run`; below `target/`, which is not kept, by the crate that the file is named after: `target/log/bench.say`
+- a path, whole or its last parts: `docs/map/01.md`, `speed/run`; below `target/`, which is not kept, anything, and below the `out/` of a crate, which is not kept either, by the crate
 - `specs/F`, `proofs/F` of crates/theory; `crate: F` (its specs/), `crate: specs/F`, `crate: proofs/F`; after these `: name`, a definition or theorem of that file
-- `Record.field`; `crate::file`, `crate::file::item`; `tm_name`, `TM_NAME` of the header; `rt check crate`
+- `Record.field`; `crate::file`, `crate::file::item`; `tm_name`, `TM_NAME` of the header; `rt must-fail crate`
 - a word alone: a definition, theorem, field, function, clause of a contract, struct, constant, edit, crate or file name, wherever it stands; after the word "edit" an edit
 - in a list after one of these, joined by commas, "and", "or", "with": of the same file, folder or record, as in `specs/Run: steps`, `pushCount`; `Demand3.gap`, `.jumps`
 
@@ -18,10 +18,11 @@ from pathlib import Path
 ROOT = Path(__file__).resolve().parent.parent
 MAP = ROOT / "docs/map"
 DOCUMENTS = [ROOT / "README.md", *sorted((ROOT / "docs").glob("*.md")), *sorted(MAP.glob("*.md"))]
-NOT_KEPT = {"target", ".git", "__pycache__"}
+NOT_KEPT = {"target", "out", ".git", "__pycache__"}
 # What names nothing of this repository: words of Rattle, of its prover and its messages, of C and Rust, of the printed text, and placeholders.
 OTHERS = {*"""rt ensures requires pub axiom axioms if omega rw search close Result memcpy memmove memset rep .rt .antt old: i g s ns instructions
-    logic-built libraries-built native= ..InArray add-if1 Record.field""".split()}
+    logic-built libraries-built native= result levels.old levels.new levels.now r.number Record.field Invariants.antt Answers.antt
+    c.args.m c.args.d c.if-d-m.true c.if-d-m.false c.f.ensures c.loop-i.invariant f-b-requires loop-i-smaller port.py""".split()}
 BLOCK = re.compile(r"^```(\w*)\n(.*?)^```$", re.M | re.S)
 LIST = re.compile(r"(,|,? and|,? or|,? with)?\s+")
 FILE = re.compile(r"(?:(\w+): )?(?:(specs|proofs)/)?([A-Z]\w*)(?:: (\S.*))?")
@@ -58,7 +59,7 @@ class Repository:
 
     def __init__(self):
         listed = [line.partition(":") for line in (ROOT / "crates.txt").read_text().splitlines() if not line.startswith("#")]
-        self.crates = {crate for crate, _, _ in listed}
+        self.crates = {crate.split()[0] for crate, _, _ in listed}
         self.kit = {library for _, _, below in listed for library in below.split()} - self.crates
         self.paths = {path.relative_to(ROOT).as_posix() for path in ROOT.rglob("*") if not NOT_KEPT & {*path.relative_to(ROOT).parts}}
         self.edits = {Path(path).stem for path in self.paths if path.endswith(".edit")}
@@ -122,7 +123,7 @@ class Reader:
             self.around, self.crate = around, crate
             return text not in around and "not where the one before it in the list stands"
         else:
-            return text.removeprefix("Need-") not in HERE.words and "no such name"
+            return text not in HERE.words and "no such name"
 
     def file(self, crate, folder, name, defined):
         if name == "X":
@@ -150,7 +151,7 @@ class Reader:
 
     def path(self, text):
         text = re.sub(r"^\./|(:\d+)+$|/$", "", text)
-        if made := re.match(r"target(?:/(?:staticlib/lib|log/|bin/)(\w+).*)?", text):
+        if made := re.match(r"target(?:/.*)?$|crates/(\w+)/out\b", text):
             return made[1] and made[1] not in HERE.crates and f"no crate {made[1]}"
         if "*" in text:
             return not [*ROOT.glob(text)] and "no such path"
