@@ -1,4 +1,5 @@
 -- Laws that the proofs of the functions use.
+pub mod Passed
 pub mod Circle
 pub mod BySpots
 pub mod Values

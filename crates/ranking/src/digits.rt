@@ -11,6 +11,7 @@ use permutation::validity::check_into;
 
 // The digit of cell m, of m cells, that is met past `passed` others: its place less 2, modulo m. At every place but 1 the place less 2 is the digit itself, so that
 // one comparison is enough, and no division, the controller's slowest instruction, is needed.
+#[tactic(auto, using(crate::proofs::Passed::digit_none_passed, crate::proofs::Passed::digit_some_passed))]
 fn digit_of(m: usize, passed: usize) -> u8
     requires { (passed < m) × (m ≤ 20) }
     ensures { result ≡ meaning.digit m (passed + 1) }

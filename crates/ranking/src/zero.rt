@@ -59,6 +59,7 @@ pub fn zero_rank(n: usize, zero: Zero) -> u64
 }
 
 // VALUE where a number is that of neither zero.
+#[tactic(auto, unfolding(crate::specs::Zeros::zero_number))]
 pub fn zero_number(number: u8) -> u8
     ensures { result ≡ zero_number number }
 {
