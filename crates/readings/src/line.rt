@@ -21,6 +21,7 @@ use super::writing_job::on_write;
 use permutation::answers::Permutation;
 use permutation::push::push;
 use ranking::unrank::unrank;
+use std::io::Result;
 
 // How many numbers stand before the record of a job on permutations.
 fn before(job: u8) -> usize
@@ -98,8 +99,8 @@ fn answered(text: &mut Text, end: usize, line: &[u8]) -> usize {
     put(text, to, b'\n')
 }
 
-pub fn answer(text: &mut Text, line: &[u8]) {
+pub fn answer(rt: &impl Print, text: &mut Text, line: &[u8]) -> Result<()> {
     let end = words(text, 0, line);
     let to = answered(text, end, line);
-    write(text, to);
+    write(rt, text, to)
 }

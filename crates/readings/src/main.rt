@@ -1,8 +1,11 @@
 // The bench readings of document 01 and the examples of documents 02, 001 and 000, executed. Each line of standard input names a job and its input; the
 // program writes the line and what the job gives. It reads 131,072 bytes at most. The file `stdout` holds what the documents say, and `expected.py` how it was found.
+#![tactic(auto)]
+
 mod arrangement_jobs; // one arrangement changed into another
 mod band_jobs; // the jobs on bands
 mod held_sheet; // a held sheet from the numbers of a line
+mod input; // standard input
 mod job_names; // which job a line names
 mod jobs; // the jobs on permutations
 mod level_jobs; // the jobs on levels alone
@@ -17,6 +20,8 @@ mod walk; // a long walk along the cycle
 mod writing_job; // a held sheet written
 
 ghost use Rattle.std.specs.Prelude.{◌≤◌, ◌<◌, length};
+
+use std::io::Result;
 
 // How many bytes are read.
 const SOURCE: usize = 131072;
@@ -36,18 +41,19 @@ fn line_end(source: &[u8], from: usize) -> usize
     i + 1
 }
 
-fn work(source: &[u8], text: &mut text::Text) {
+fn work(rt: &impl Print, source: &[u8], text: &mut text::Text) -> Result<()> {
     let mut from: usize = 0;
     while from < source.len() {
         let to = line_end(source, from);
-        line::answer(text, &source[from..to]);
+        line::answer(rt, text, &source[from..to])?;
         from = to;
     }
+    Ok(())
 }
 
-fn main() {
+fn main(rt: HostRuntime) -> Result<()> {
     let mut source = [0u8; SOURCE];
     let mut text = io::large_buffer();
-    let n = io::read_full(libc::STDIN_FILENO, &mut source);
-    work(&source[..n], &mut text);
+    let n = input::read_full(&mut rt.stdin(), &mut source);
+    work(&rt, &source[..n], &mut text)
 }

@@ -2,6 +2,7 @@
 ghost use Rattle.std.specs.Prelude.{◌≤◌, length};
 
 use permutation::answers::{Permutation, Permuted};
+use std::io::Result;
 
 const ROOM: usize = 65536;
 
@@ -116,8 +117,9 @@ pub fn permuted(text: &mut Text, at: usize, answer: Permuted) -> usize {
     record(text, to, answer.permutation)
 }
 
-pub fn write(text: &[u8], at: usize) {
+pub fn write(rt: &impl Print, text: &[u8], at: usize) -> Result<()> {
     if at <= text.len() {
-        io::write_all(libc::STDOUT_FILENO, &text[0..at]);
+        rt.write_all(&text[0..at])?;
     }
+    Ok(())
 }
