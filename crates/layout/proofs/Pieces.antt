@@ -1,15 +1,12 @@
 -- The rows of the text, as pieces: fields, and the lines of commands and of groups, with their values. Assumes nothing.
-use mathlib.Core.Path.{◌≡◌, refl, sym, ap, ◌∙◌}
+use mathlib.Core.Path.{◌≡◌, refl}
 use mathlib.Core.List.{List, [], ◌∷◌, ◌++◌, zip_with}
 use Prim.Native.Nat.{ℕ, suc, ◌+◌, ◌≤◌, ◌<◌}
 use native.Mathlib.Nat.{add-zero}
-use native.Mathlib.Omega.{arith}
 use lib.ListN.{length, get_or, take}
-use lib.Seq.{length-take-le, get_or-take}
 use Rattle.sheet.specs.Held.{levels_of, groups_in}
 use Rattle.sheet.specs.Standing.{GroupsHeld}
 use Rattle.sheet.specs.declared.held.Group.{Group}
-use Rattle.sheet.proofs.InMemory.{held_count, held_levels}
 use Rattle.work.specs.declared.answers.Outcome.{Outcome}
 use Rattle.work.proofs.Zipped.{beside_count, beside_at}
 use Rattle.sheet.specs.Putting.{Puts}

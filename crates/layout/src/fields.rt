@@ -19,6 +19,6 @@ pub fn put_field(text: &mut [u8], at: usize, x: u64) -> usize
     let from = put_byte(text, at, b' ');
     let mut digits = [0u8; 20];
     let count = io::decimal(x, &mut digits);
-    bytes::copy(&digits[..count], &mut text[from..]);
+    text[from..from + count].copy_from_slice(&digits[..count]);
     from + count
 }

@@ -1,7 +1,7 @@
 -- Bytes put piece by piece: nothing, one byte, a piece after another, and the next of a row of pieces. Assumes nothing.
 use mathlib.Core.Path.{◌≡◌, refl, sym, ap, ◌∙◌}
 use mathlib.Core.List.{List, [], ◌∷◌, ◌++◌, append-nil, append_assoc}
-use Prim.Native.Nat.{ℕ, suc, ◌+◌, ◌-◌, ◌*◌, ◌≤◌, ◌<◌}
+use Prim.Native.Nat.{ℕ, suc, ◌+◌, ◌*◌, ◌≤◌, ◌<◌}
 use native.Mathlib.Numerals.{add-one}
 use native.Mathlib.Omega.{arith}
 use lib.ListN.{length, get_or, take, drop, set, length-append, length-set}
@@ -16,15 +16,14 @@ pub puts_byte : (text : List ℕ) (at byte : ℕ) → at < length text → Puts 
 puts_byte text at byte h =
     record { end_is = omega arith; long = length-set text at byte; front = rw (add-one at) (take-suc-set text at byte h) }
 
--- bytes copied over those that stood from a place on
+-- bytes copied over m of those that stood from a place on
 pub puts_copied :
-    (a : List ℕ) (at : ℕ) (xs past ys : List ℕ) {r : ℕ} → let b : List ℕ = put_mid at (length a - at) a ys in
-    ys ≡ take (length xs) xs ++ past → at ≤ length a → length b ≡ length a → r ≡ at + length xs → Puts a at b r xs
-puts_copied a at xs past ys {r} e h long end =
-    let rest : List ℕ = post_of at (length a - at) a in
-    let laid : ys ++ rest ≡ xs ++ (past ++ rest) = rw (e, take-length xs) (append_assoc xs past rest) in
+    (a : List ℕ) (at m : ℕ) (xs ys : List ℕ) {r : ℕ} → let b : List ℕ = put_mid at m a ys in
+    ys ≡ xs → at ≤ length a → length b ≡ length a → r ≡ at + length xs → Puts a at b r xs
+puts_copied a at m xs ys {r} e h long end =
+    let rest : List ℕ = post_of at m a in
     let front : take (length (take at a) + length xs) (take at a ++ (ys ++ rest)) ≡ take at a ++ xs =
-    take-append-add (take at a) (ys ++ rest) (length xs) ∙ rw (laid, take-append_seam xs (past ++ rest)) in
+    take-append-add (take at a) (ys ++ rest) (length xs) ∙ rw (e, take-append_seam xs rest) in
     record { end_is = end; long = long; front = rw end (rw (length-take-le at a h) at front) }
 
 -- one piece after another
