@@ -6,6 +6,7 @@ ghost use Rattle.uneven.specs.Answers as meaning;
 use permutation::reasons::{FIT, SIZE, VALUE};
 
 // SIZE, FIT or 0. `entries` is the length of the weight list.
+#[tactic(auto, using(crate::proofs::Ranges::too_few, crate::proofs::Ranges::too_many))]
 pub fn misfit(n: usize, entries: usize, m: u64) -> u8
     ensures { result ≡ meaning.misfit n entries m }
 {
@@ -22,6 +23,7 @@ pub fn misfit(n: usize, entries: usize, m: u64) -> u8
 }
 
 // VALUE where m is out of its range, or 0.
+#[tactic(auto, using(crate::proofs::Ranges::range_low, crate::proofs::Ranges::range_high))]
 pub fn range_number(table: &[u64; 21], n: usize, m: u64) -> u8
     requires { (table.now ≡ factorial_table) × (n ≤ 20) }
     ensures { result ≡ meaning.range_of n m }

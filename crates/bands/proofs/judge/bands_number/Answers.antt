@@ -20,12 +20,12 @@ sized : (c : Else-size_within-eq0) → size_of (length c.args.lowest.now) ≡ 0
 sized c = (within_some (length c.args.lowest.now) c.size_within.ensures c.if-size_within-eq0.false).0
 
 pub returns-then-highest-lowest : goal.returns-then-highest-lowest
-returns-then-highest-lowest c = bands_fit _ _ (sized (goal.at.returns-then-highest-lowest c).Else-size_within-eq0) c.if-highest-lowest.true
+returns-then-highest-lowest c = bands_fit _ _ (sized (goal.at.returns-then-highest-lowest c).Else-size_within-eq0) (λ e. omega (arith, c.if-highest-lowest.true, e))
 
 pub returns-then-none_above : goal.returns-then-none_above
 returns-then-none_above c =
-    bands_done _ _ (sized (goal.at.returns-then-none_above c).Else-size_within-eq0) c.if-highest-lowest.false (sym c.none_above.ensures ∙ c.if-none_above.true)
+    bands_done _ _ (sized (goal.at.returns-then-none_above c).Else-size_within-eq0) (omega (arith, c.if-highest-lowest.false)) (sym c.none_above.ensures ∙ c.if-none_above.true)
 
 pub returns : goal.returns
 returns c =
-    bands_value _ _ (sized (goal.at.returns c).Else-size_within-eq0) c.if-highest-lowest.false (sym c.none_above.ensures ∙ c.if-none_above.false)
+    bands_value _ _ (sized (goal.at.returns c).Else-size_within-eq0) (omega (arith, c.if-highest-lowest.false)) (sym c.none_above.ensures ∙ c.if-none_above.false)

@@ -1,5 +1,6 @@
 -- `symbols::read_symbol::leading_symbol` meets its contract: the prefix's number is the symbol, or it is idle. Assumes nothing.
 use mathlib.Core.Path.{◌≡◌, ◌∙◌}
+use native.Mathlib.Omega.{arith}
 use borrow.Author.Rules.{rules}
 use Rattle.theory.specs.Prefix.{symbol_of}
 use Rattle.permutation.specs.Records.{list_of}
@@ -18,7 +19,7 @@ found : (c : After-prefix_number-symbol)
 found c = symbol_is _ _ _ c.prefix_number-symbol.ensures c.requires.2
 
 pub returns-then-m-symbol : goal.returns-then-m-symbol
-returns-then-m-symbol c = c.no_symbol.ensures ∙ code_read_idle _ _ _ (found (goal.at.returns-then-m-symbol c).After-prefix_number-symbol) c.if-m-symbol.true
+returns-then-m-symbol c = c.no_symbol.ensures ∙ code_read_idle _ _ _ (found (goal.at.returns-then-m-symbol c).After-prefix_number-symbol) (omega (arith, c.if-m-symbol.true))
 
 pub returns : goal.returns
-returns c = code_read_done _ _ _ (found (goal.at.returns c).After-prefix_number-symbol) c.if-m-symbol.false
+returns c = code_read_done _ _ _ (found (goal.at.returns c).After-prefix_number-symbol) (omega (arith, c.if-m-symbol.false))

@@ -14,10 +14,10 @@ pub bounds-along-r : goal.bounds-along-r
 bounds-along-r c = let v = c.loop-r.invariant in omega (arith, v.within, v.short)
 
 pub returns-then-level-bound : goal.returns-then-level-bound
-returns-then-level-bound c = end c.loop-r.invariant (λ pos. c.if-level-bound.true)
+returns-then-level-bound c = end c.loop-r.invariant (λ pos. omega (arith, c.if-level-bound.true))
 
 pub loop-r-preserved : goal.loop-r-preserved
-loop-r-preserved c = step c.loop-r.invariant c.loop-r-test.true c.if-level-bound.false
+loop-r-preserved c = step c.loop-r.invariant c.loop-r-test.true (omega (arith, c.if-level-bound.false))
 
 pub returns : goal.returns
 returns c =

@@ -43,7 +43,7 @@ returns-then-tied_along c =
 
 pub raise-requires : goal.raise-requires
 raise-requires c =
-    first_pushable c.requires c.store_count-r.ensures.within
+    first_pushable c.requires (omega (arith, c.store_count-r.ensures.within))
 
 pub returns : goal.returns
 returns c =

@@ -43,12 +43,12 @@ bounds-lengths-k t c =
 pub returns-then-cost-deeper : goal.returns-then-cost-deeper
 returns-then-cost-deeper t c =
     given_first c.requires c.if-left-unit.false c.if-left-unit-2.true c.plan_lengths-deeper.ensures c.plan_lengths-first.ensures
-    c.times.ensures.0 c.times.ensures.1 c.if-cost-deeper.true
+    c.times.ensures.0 c.times.ensures.1 (omega (arith, c.if-cost-deeper.true))
 
 pub returns-else-cost-deeper : goal.returns-else-cost-deeper
 returns-else-cost-deeper t c =
     given_deeper c.requires c.if-left-unit.false c.if-left-unit-2.true c.plan_lengths-deeper.ensures c.plan_lengths-first.ensures
-    c.times.ensures.0 c.if-cost-deeper.false
+    c.times.ensures.0 (omega (arith, c.if-cost-deeper.false))
 
 pub returns-else-left-unit-2 : goal.returns-else-left-unit-2
 returns-else-left-unit-2 t c = given_none c.requires c.if-left-unit.false c.if-left-unit-2.false c.plan_lengths-deeper.ensures

@@ -28,7 +28,7 @@ leading_index-k-requires c =
 pub returns-then-m-k : goal.returns-then-m-k
 returns-then-m-k c =
     c.no_symbol.ensures
-    ∙ read_idle c.requires.1 c.make_codebook-book.ensures (is-sound (goal.at.returns-then-m-k c).Start).permutation c.prefix_number-number.ensures c.leading_index-k.ensures c.if-m-k.true
+    ∙ read_idle c.requires.1 c.make_codebook-book.ensures (is-sound (goal.at.returns-then-m-k c).Start).permutation c.prefix_number-number.ensures c.leading_index-k.ensures (omega (arith, c.if-m-k.true))
 
 pub bounds-symbols-k : goal.bounds-symbols-k
 bounds-symbols-k c =
@@ -37,4 +37,4 @@ bounds-symbols-k c =
 pub returns : goal.returns
 returns c =
     read_found c.requires.1 c.make_codebook-book.ensures (is-sound (goal.at.returns c).Start).permutation c.prefix_number-number.ensures c.leading_index-k.ensures
-    c.if-m-k.false c.wide_digit-symbol.ensures
+    (omega (arith, c.if-m-k.false)) c.wide_digit-symbol.ensures

@@ -37,7 +37,7 @@ returns-then-m-symbol c =
     let a = c.args in
     c.no_prefix-then-m-symbol.ensures
     ∙ row_refused a.n a.weights.now a.m a.symbol
-    (row_value a.n a.weights.now a.m a.symbol (fitting_done (fits (goal.at.returns-then-m-symbol c).Else-number-ne0)) (no_such_symbol _ _ _ (ranges (goal.at.returns-then-m-symbol c).Else-range-ne0) c.if-m-symbol.true)) (λ z. omega arith)
+    (row_value a.n a.weights.now a.m a.symbol (fitting_done (fits (goal.at.returns-then-m-symbol c).Else-number-ne0)) (no_such_symbol _ _ _ (ranges (goal.at.returns-then-m-symbol c).Else-range-ne0) (omega (arith, c.if-m-symbol.true)))) (λ z. omega arith)
 
 pub symbol_row-requires : goal.symbol_row-requires
 symbol_row-requires c =
@@ -47,4 +47,4 @@ symbol_row-requires c =
 pub returns : goal.returns
 returns c =
     let a = c.args in
-    row_done a.n a.weights.now a.m a.symbol (fitting_done (fits (goal.at.returns c).Else-number-ne0)) (symbol_done _ _ _ (ranges (goal.at.returns c).Else-range-ne0) c.if-m-symbol.false) c.symbol_row.ensures
+    row_done a.n a.weights.now a.m a.symbol (fitting_done (fits (goal.at.returns c).Else-number-ne0)) (symbol_done _ _ _ (ranges (goal.at.returns c).Else-range-ne0) (omega (arith, c.if-m-symbol.false))) c.symbol_row.ensures

@@ -34,7 +34,8 @@ returns-then-found-ne0 c =
 pub store_prefix-requires : goal.store_prefix-requires
 store_prefix-requires c =
     let a = c.args in
-    found_stored a.levels.now a.weights.now a.m a.symbol c.uneven_row-found.ensures c.if-found-ne0.false
+    let v = found_stored a.levels.now a.weights.now a.m a.symbol c.uneven_row-found.ensures c.if-found-ne0.false in
+    record { few = v.few; many = v.many; long = v.long; permutation = v.permutation; short = omega (arith, v.few, v.short) }
 
 pub returns : goal.returns
 returns c =
