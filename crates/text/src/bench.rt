@@ -43,6 +43,6 @@ pub fn bench(sheet: &[u8], text: &mut [u8]) -> Printed
             length: 0,
         };
     }
-    bytes::copy(&page[..length], text);
+    text[..length].copy_from_slice(&page[..length]);
     Printed { number: 0, length }
 }
