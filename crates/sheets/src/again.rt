@@ -1,5 +1,6 @@
 // A sheet without fault, read and written again: a line w with the number, the length, and 1 where what is written is what was read.
 use reader::read_sheet::read_sheet;
+use std::io::Result;
 use writer::write_sheet::write_sheet;
 
 // What each lent byte holds before a sheet is written.
@@ -34,23 +35,22 @@ fn equal(out: &[u8], length: usize, sheet: &[u8]) -> u64 {
     if holds(out, sheet) { 1 } else { 0 }
 }
 
-fn print_field(n: u64) {
-    io::write_all(libc::STDOUT_FILENO, b" ");
-    io::print_decimal(libc::STDOUT_FILENO, n);
+fn print_field(rt: &impl Print, n: u64) -> Result<()> {
+    print!(rt; " {n}")
 }
 
 // A faulty sheet has no line.
-pub fn print_again(sheet: &[u8]) {
+pub fn print_again(rt: &impl Print, sheet: &[u8]) -> Result<()> {
     let found = read_sheet(sheet);
     if found.number != 0 {
-        return;
+        return Ok(());
     }
     let held = found.sheet;
     let mut out = unwritten();
     let written = write_sheet(held, &mut out);
-    io::write_all(libc::STDOUT_FILENO, b"w");
-    print_field(written.number as u64);
-    print_field(written.length as u64);
-    print_field(equal(&out, written.length, sheet));
-    io::write_all(libc::STDOUT_FILENO, b"\n");
+    print!(rt; "w")?;
+    print_field(rt, written.number as u64)?;
+    print_field(rt, written.length as u64)?;
+    print_field(rt, equal(&out, written.length, sheet))?;
+    println!(rt; "")
 }
