@@ -1,5 +1,7 @@
 // The functions for C and Rust, under names with the prefix tm_ (include/turretmedlar.h). Each has the contract of the function that it passes on; of `bench`'s all
 // that C can use. A lent list crosses as its address and its length.
+#![tactic(auto)]
+
 ghost use Rattle.std.specs.Prelude.{◌≡◌, ◌≤◌, length, take};
 ghost use Rattle.theory.specs.Reasons.{idle};
 ghost use Rattle.theory.specs.Levels.{permutation_of};
