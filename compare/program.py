@@ -105,7 +105,7 @@ def statuses(texts):
     yield "139, a stack of 128 KiB", ran('ulimit -s 128; "$0" "$1"', COMMAND, PAPER), 139, "", None
     reader, writer = os.pipe()
     os.close(reader)
-    yield "141, nobody reads", ran('"$0" "$1"', COMMAND, PAPER, stdout=writer), 141, None, ""
+    yield "1, nobody reads", ran('"$0" "$1"', COMMAND, PAPER, stdout=writer), 1, None, f"bench: standard output: {os.strerror(errno.EPIPE)}\n"
     os.close(writer)
 
 
