@@ -105,6 +105,7 @@ fn read_commands(s: &[u8], at: usize, groups: Groups) -> SheetRead
     rest
 }
 
+#[tactic(auto, using(crate::proofs::Refused::few_refused))]
 pub fn read_sheet(bytes: &[u8]) -> SheetRead
     ensures { result ≡ sheet_answer (meaning.sheet bytes.now) }
 {

@@ -87,7 +87,7 @@ module _ {G : ℕ} {ns : List ℕ} {zeros : List GroupZero} {low i : ℕ} (p : N
     unfolding rising
     named_more few rises below = record {
       within = omega arith;
-      left = p.left ∙ rw (drop-cons ns i 0 more, ← is, le-leb low g rises, lt-ltb g G below, add-one, add-one);
+      left = p.left ∙ rw (drop-cons ns i 0 more, ← is, le-leb low g rises, lt-ltb g G below, add-one g, add-one i);
       held = rw (p.held, add-one, take-suc ns i 0 more, ← is) (held_new G few (take i ns) g below);
     }
 

@@ -24,8 +24,8 @@ record Sized (g : Group) (k : ℕ) : Type 0 where
   few : k ≤ 20
   there : length (take k g.levels) ≡ k
 
-sized-now : (c : Else-n-eq0) → Sized c.args.group c.size_within-n.result
-sized-now c =
+sized_now : (c : Else-n-eq0) → Sized c.args.group c.size_within-n.result
+sized_now c =
     let g = c.args.group in
     let long : length g.levels ≡ 20 = search rules in
     let w = within_some g.n c.size_within-n.ensures c.if-n-eq0.false in
@@ -45,33 +45,33 @@ returns-then-n-eq0 c =
 pub slice_bounds-levels-end : goal.slice_bounds-levels-end
 slice_bounds-levels-end c =
     let long : length c.args.group.levels ≡ 20 = search rules in
-    omega (arith, (sized-now (goal.at.slice_bounds-levels-end c).Else-n-eq0).few)
+    omega (arith, (sized_now (goal.at.slice_bounds-levels-end c).Else-n-eq0).few)
 
 pub slice_bounds-tied-end : goal.slice_bounds-tied-end
-slice_bounds-tied-end c = sym (sized-now (goal.at.slice_bounds-tied-end c).Else-n-eq0).there
+slice_bounds-tied-end c = sym (sized_now (goal.at.slice_bounds-tied-end c).Else-n-eq0).there
 
 pub returns-then-tied : goal.returns-then-tied
 returns-then-tied c =
-    let n = sized-now (goal.at.returns-then-tied c).Else-n-eq0 in
+    let n = sized_now (goal.at.returns-then-tied c).Else-n-eq0 in
     lays_refused c.refuse-then-tied.ensures (group_tied _ n.size (rw n.is at (sym c.tied.ensures ∙ c.if-tied.true))) (λ z. omega arith)
 
 pub slice_bounds-levels-end-2 : goal.slice_bounds-levels-end-2
 slice_bounds-levels-end-2 c =
     let long : length c.args.group.levels ≡ 20 = search rules in
-    omega (arith, (sized-now (goal.at.slice_bounds-levels-end-2 c).Else-n-eq0).few)
+    omega (arith, (sized_now (goal.at.slice_bounds-levels-end-2 c).Else-n-eq0).few)
 
 pub slice_bounds-put_levels-end : goal.slice_bounds-put_levels-end
-slice_bounds-put_levels-end c = sym (sized-now (goal.at.slice_bounds-put_levels-end c).Else-n-eq0).there
+slice_bounds-put_levels-end c = sym (sized_now (goal.at.slice_bounds-put_levels-end c).Else-n-eq0).there
 
 pub put_levels-requires : goal.put_levels-requires
 put_levels-requires c =
-    let n = sized-now (goal.at.put_levels-requires c).Else-n-eq0 in
+    let n = sized_now (goal.at.put_levels-requires c).Else-n-eq0 in
     omega (arith, c.put_little-from.ensures.long, number_end 1 _ c.put_little-from.ensures, n.there, n.few)
 
 pub returns : goal.returns
 unfolding group_bytes
 returns c =
-    let n = sized-now (goal.at.returns c).Else-n-eq0 in
+    let n = sized_now (goal.at.returns c).Else-n-eq0 in
     let size = c.put_little-from.ensures in
     lays_put c.done.ensures
     (group_clear _ n.size (rw n.is at (sym c.tied.ensures ∙ c.if-tied.false)))

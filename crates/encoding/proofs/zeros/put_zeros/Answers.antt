@@ -26,13 +26,13 @@ all_there c =
     length-take-le a.total a.zeros (omega (arith, c.requires.1))
 
 -- past the loop all numbers were put, in at most 64 bytes
-numbers-now : (c : After-loop-g)
+numbers_now : (c : After-loop-g)
     → let a = c.args in
     let ns = numbers_on_new 0 (take a.total a.zeros) in
     Puts a.out.now (a.at + 1) c.loop-g.out c.loop-g.end (flat_map (bytes_of 1) ns)
     × (length ns ≤ 64)
     × (c.loop-g.end ≤ a.at + 65)
-numbers-now c =
+numbers_now c =
     let inv = c.loop-g.invariant in
     let there = all_there (goal.at.After-loop-g c).At-loop-g in (
       row_end numbers_grow _ _ _ _ inv (omega (arith, c.loop-g-test.false)),
@@ -60,22 +60,22 @@ shape_of-out-then-end-first c = c.loop-g.invariant.put.long
 
 pub returns-then-end-first : goal.returns-then-end-first
 returns-then-end-first c =
-    let put = numbers-now (goal.at.returns-then-end-first c).After-loop-g in
+    let put = numbers_now (goal.at.returns-then-end-first c).After-loop-g in
     record { puts = none_put _ put.0 c.if-end-first.true; short = omega arith }
 
 pub overflow_sub-out : goal.overflow_sub-out
-overflow_sub-out c = let put = (numbers-now (goal.at.overflow_sub-out c).After-loop-g).0 in omega (arith, put.end_is)
+overflow_sub-out c = let put = (numbers_now (goal.at.overflow_sub-out c).After-loop-g).0 in omega (arith, put.end_is)
 
 pub overflow_cast-out : goal.overflow_cast-out
-overflow_cast-out c = let put = numbers-now (goal.at.overflow_cast-out c).After-loop-g in omega (arith, put.2)
+overflow_cast-out c = let put = numbers_now (goal.at.overflow_cast-out c).After-loop-g in omega (arith, put.2)
 
 pub bounds-out-at : goal.bounds-out-at
-bounds-out-at c = let put = (numbers-now (goal.at.bounds-out-at c).After-loop-g).0 in omega (arith, put.long, c.requires.0)
+bounds-out-at c = let put = (numbers_now (goal.at.bounds-out-at c).After-loop-g).0 in omega (arith, put.long, c.requires.0)
 
 pub shape_of-out : goal.shape_of-out
 shape_of-out c = let put = c.loop-g in length-set put.out _ _ ∙ put.invariant.put.long
 
 pub returns : goal.returns
 returns c =
-    let put = numbers-now (goal.at.returns c).After-loop-g in
+    let put = numbers_now (goal.at.returns c).After-loop-g in
     record { puts = some_put _ put.0 c.if-end-first.false (omega (arith, put.1)) (omega (arith, c.requires.0)); short = put.2 }

@@ -14,27 +14,27 @@ all_there : (c : At-loop-i) → let a = c.args in length (take a.total a.zeros.n
 all_there c = length-take-le c.args.total c.args.zeros.now c.requires
 
 -- the number of the zero whose turn it is
-number-now : (c : After-zero_number-number)
+number_now : (c : After-zero_number-number)
     → let a = c.args in
     c.zero_number-number.result ≡ zero_number (get_or (take a.total a.zeros.now) c.loop-i.i 0)
-number-now c =
+number_now c =
     let a = c.args in
     c.zero_number-number.ensures ∙ ap zero_number (sym (get_or-take a.total a.zeros.now c.loop-i.i 0 c.loop-i-test.true))
 
-more-now : (c : After-zero_number-number)
+more_now : (c : After-zero_number-number)
     → let a = c.args in
     c.loop-i.i < length (take a.total a.zeros.now)
-more-now c = omega (arith, all_there (goal.at.After-zero_number-number c).At-loop-i, c.loop-i-test.true)
+more_now c = omega (arith, all_there (goal.at.After-zero_number-number c).At-loop-i, c.loop-i-test.true)
 
 pub loop-i-init : goal.loop-i-init
 loop-i-init c = judged_none _
 
 pub returns-then-number-ne0 : goal.returns-then-number-ne0
-returns-then-number-ne0 c = judged_stop c.loop-i.invariant (more-now (goal.at.returns-then-number-ne0 c).After-zero_number-number) (number-now (goal.at.returns-then-number-ne0 c).After-zero_number-number) c.if-number-ne0.true
+returns-then-number-ne0 c = judged_stop c.loop-i.invariant (more_now (goal.at.returns-then-number-ne0 c).After-zero_number-number) (number_now (goal.at.returns-then-number-ne0 c).After-zero_number-number) c.if-number-ne0.true
 
 pub loop-i-preserved : goal.loop-i-preserved
 loop-i-preserved c =
-    judged_more c.loop-i.invariant (more-now (goal.at.loop-i-preserved c).After-zero_number-number) (sym (number-now (goal.at.loop-i-preserved c).After-zero_number-number) ∙ c.if-number-ne0.false)
+    judged_more c.loop-i.invariant (more_now (goal.at.loop-i-preserved c).After-zero_number-number) (sym (number_now (goal.at.loop-i-preserved c).After-zero_number-number) ∙ c.if-number-ne0.false)
 
 pub returns : goal.returns
 returns c = judged_all c.loop-i.invariant (omega (arith, all_there (goal.at.returns c).At-loop-i, c.loop-i-test.false))

@@ -23,16 +23,16 @@ returns-then-count-gt1000 c =
     ∙ ap sheet_answer (sym (commands_many _ _ _ _ (omega arith) c.little-count.ensures.spelled c.if-count-gt1000.true))
 
 -- what is read of the entries is the sheet's
-rest-is : (c : After-read_entries-rest)
+rest_is : (c : After-read_entries-rest)
     → let a = c.args in
     c.read_entries-rest.result ≡ sheet_answer (commands (groups_in a.groups) a.s.now a.at)
-rest-is c =
+rest_is c =
     c.read_entries-rest.ensures
     ∙ ap sheet_answer (sym (commands_row _ _ _ _ (omega arith) c.little-count.ensures.spelled c.if-count-gt1000.false))
 
 pub returns-then-rest-ne0 : goal.returns-then-rest-ne0
 returns-then-rest-ne0 c =
-    c.refuse-then-rest-ne0.ensures ∙ refused_anew c.read_entries-rest.result _ (rest-is (goal.at.returns-then-rest-ne0 c).After-read_entries-rest) c.if-rest-ne0.true
+    c.refuse-then-rest-ne0.ensures ∙ refused_anew c.read_entries-rest.result _ (rest_is (goal.at.returns-then-rest-ne0 c).After-read_entries-rest) c.if-rest-ne0.true
 
 pub returns : goal.returns
-returns c = rest-is (goal.at.returns c).After-read_entries-rest
+returns c = rest_is (goal.at.returns c).After-read_entries-rest

@@ -22,21 +22,21 @@ use Rattle.reader.proofs.read_sheet.read_entries.Goals as goal
 use Rattle.reader.proofs.read_sheet.read_entries.Goals.{After-read_command-found, After-read_zeros-last, After-sizes_of-sizes}
 
 -- the numbers of cells are those of the lists
-sizes-now : (c : After-sizes_of-sizes)
+sizes_now : (c : After-sizes_of-sizes)
     → let groups = c.args.groups in take groups.count c.sizes_of-sizes.result ≡ map length (groups_in groups)
-sizes-now c = rw c.sizes_of-sizes.ensures (sizes_front c.requires.1)
+sizes_now c = rw c.sizes_of-sizes.ensures (sizes_front c.requires.1)
 
 -- so what is found is a command of the sheet
-found-now : (c : After-read_command-found)
+found_now : (c : After-read_command-found)
     → let a = c.args in
     c.read_command-found.result ≡ entry_answer (reader a.groups a.s.now c.loop-i.at)
-found-now c = rw (sizes-now (goal.at.After-read_command-found c).After-sizes_of-sizes) at c.read_command-found.ensures
+found_now c = rw (sizes_now (goal.at.After-read_command-found c).After-sizes_of-sizes) at c.read_command-found.ensures
 
 -- what stands after the commands are the zeros of its groups
-last-now : (c : After-read_zeros-last)
+last_now : (c : After-read_zeros-last)
     → let a = c.args in
     c.read_zeros-last.result ≡ zeros_answer (zeros_at (length (groups_in a.groups)) a.s.now c.loop-i.at)
-last-now c =
+last_now c =
     c.read_zeros-last.ensures ∙ ap (λ (G : ℕ). zeros_answer (zeros_at G c.args.s.now c.loop-i.at)) (held_count c.requires.1)
 
 pub sizes_of-sizes-requires : goal.sizes_of-sizes-requires
@@ -52,13 +52,13 @@ slice_bounds-read_command-end c = let few = c.requires.1.few in sym (length-take
 
 pub read_command-found-requires : goal.read_command-found-requires
 read_command-found-requires c =
-    rw (sizes-now (goal.at.read_command-found-requires c).After-sizes_of-sizes) (small (groups_in c.args.groups) c.requires.1.readable)
+    rw (sizes_now (goal.at.read_command-found-requires c).After-sizes_of-sizes) (small (groups_in c.args.groups) c.requires.1.readable)
 
 pub returns-then-found-ne0 : goal.returns-then-found-ne0
 unfolding sheet_answer
 returns-then-found-ne0 c =
     let l = c.loop-i in
-    let bad = answered_fault entry_tells_fault c.read_command-found.result _ (found-now (goal.at.returns-then-found-ne0 c).After-read_command-found) c.if-found-ne0.true in
+    let bad = answered_fault entry_tells_fault c.read_command-found.result _ (found_now (goal.at.returns-then-found-ne0 c).After-read_command-found) c.if-found-ne0.true in
     let stopped = turns_stop l.invariant (search rules) bad.0 bad.1 in
     c.refuse.ensures ∙ rw bad.2 (ap sheet_answer (sym (row_fault _ _ _ _ _ stopped)))
 
@@ -66,7 +66,7 @@ pub loop-i-preserved : goal.loop-i-preserved
 unfolding entry_answer
 loop-i-preserved c =
     let l = c.loop-i in
-    let good = answered_got entry_tells_fault c.read_command-found.result _ (found-now (goal.at.loop-i-preserved c).After-read_command-found) c.if-found-ne0.false in
+    let good = answered_got entry_tells_fault c.read_command-found.result _ (found_now (goal.at.loop-i-preserved c).After-read_command-found) c.if-found-ne0.false in
     turns_more l.invariant (search rules) (search rules) good.0 good.1 good.2 _ _
     (ap (λ (r : EntryRead). r.entry) good.3) (ap (λ (r : EntryRead). r.next) good.3)
 
@@ -76,7 +76,7 @@ read_zeros-last-requires c = c.requires.1.few
 pub returns-then-last-ne0 : goal.returns-then-last-ne0
 unfolding sheet_answer
 returns-then-last-ne0 c =
-    let bad = answered_fault zeros_tells_fault c.read_zeros-last.result _ (last-now (goal.at.returns-then-last-ne0 c).After-read_zeros-last) c.if-last-ne0.true in
+    let bad = answered_fault zeros_tells_fault c.read_zeros-last.result _ (last_now (goal.at.returns-then-last-ne0 c).After-read_zeros-last) c.if-last-ne0.true in
     let all = turns_all c.loop-i.invariant (search rules) in
     c.refuse-then-last-ne0.ensures ∙ rw bad.2 (ap sheet_answer (sym (row_bad _ _ _ _ _ _ all bad.0 bad.1)))
 
@@ -85,7 +85,7 @@ unfolding sheet_answer zeros_answer
 returns c =
     let l = c.loop-i in
     let done : c.args.count ≤ l.i = search rules in
-    let good = answered_got zeros_tells_fault c.read_zeros-last.result _ (last-now (goal.at.returns c).After-read_zeros-last) c.if-last-ne0.false in
+    let good = answered_got zeros_tells_fault c.read_zeros-last.result _ (last_now (goal.at.returns c).After-read_zeros-last) c.if-last-ne0.false in
     let front = l.invariant.front ∙ ap (padded 1000 no_entry) (map-id l.invariant.read) in
     ap (λ (s : Sheet). record { number = 0; sheet = s })
     (sheet_held c.requires.1 _ good.0 (ap (λ (r : ZerosRead). r.zeros) good.3) _ l.entries l.invariant.read (turns_long l.invariant done) front)

@@ -12,16 +12,16 @@ use Rattle.sheet.specs.declared.groups.GroupRead.{GroupRead}
 use Rattle.sheet.proofs.InMemory.{groups_back, read_hold}
 use Rattle.reader.proofs.Loops.{turns_none, turns_more, turns_stop, turns_all, turns_long}
 use Rattle.sheet.proofs.FaultNumbers.{group_tells_fault, answered_fault, answered_got}
-use Rattle.sheet.proofs.ByTests.{sheet_none, sheet_few, sheet_many, sheet_fault, sheet_groups}
+use Rattle.sheet.proofs.ByTests.{sheet_none, sheet_many, sheet_fault, sheet_groups}
 use Rattle.reader.proofs.Refused.{refused_anew}
 use Rattle.reader.proofs.read_sheet.read_sheet.Goals as goal
 use Rattle.reader.proofs.read_sheet.read_sheet.Goals.{After-loop-i, After-read_commands-rest}
 
 -- at the end, the row holds all groups
-held-now : (c : After-loop-i)
+held_now : (c : After-loop-i)
     → let l = c.loop-i in
     ◌≡◌ {A = Groups} (record { count = c.wide-count.result; list = l.list }) (groups_of l.invariant.read)
-held-now c =
+held_now c =
     let l = c.loop-i in
     let long = turns_long l.invariant (search rules) in
     λ i. record { count = sym long i; list = l.invariant.front i }
@@ -29,11 +29,6 @@ held-now c =
 pub returns-then-bytes-eq0 : goal.returns-then-bytes-eq0
 unfolding sheet_answer
 returns-then-bytes-eq0 c = c.refuse.ensures ∙ ap sheet_answer (sym (sheet_none _ c.if-bytes-eq0.true))
-
-pub returns-then-count-lt1 : goal.returns-then-count-lt1
-unfolding sheet_answer
-returns-then-count-lt1 c =
-    c.refuse-then-count-lt1.ensures ∙ ap sheet_answer (sym (sheet_few _ _ (omega arith) c.wide-count.ensures (omega arith)))
 
 pub returns-then-count-gt64 : goal.returns-then-count-gt64
 unfolding sheet_answer
@@ -51,7 +46,7 @@ returns-then-found-ne0 c =
     let stopped = turns_stop c.loop-i.invariant (search rules) bad.0 bad.1 in
     c.refuse-then-found-ne0.ensures
     ∙ rw bad.2
-    (ap sheet_answer (sym (sheet_fault _ _ (omega arith) c.wide-count.ensures c.if-count-lt1.false c.if-count-gt64.false _ stopped)))
+    (ap sheet_answer (sym (sheet_fault _ _ (omega arith) c.wide-count.ensures (omega arith) c.if-count-gt64.false _ stopped)))
 
 pub loop-i-preserved : goal.loop-i-preserved
 unfolding group_answer
@@ -63,23 +58,23 @@ loop-i-preserved c =
 pub read_commands-rest-requires : goal.read_commands-rest-requires
 read_commands-rest-requires c =
     let l = c.loop-i in
-    rw (held-now c) (read_hold _ _ _ l.invariant.read _ (turns_all l.invariant (search rules)) (search rules))
+    rw (held_now c) (read_hold _ _ _ l.invariant.read _ (turns_all l.invariant (search rules)) (search rules))
 
 -- what is read past the groups is the sheet's
-rest-is : (c : After-read_commands-rest)
+rest_is : (c : After-read_commands-rest)
     → c.read_commands-rest.result ≡ sheet_answer (sheet c.args.bytes.now)
-rest-is c =
+rest_is c =
     let l = c.loop-i in
     let bytes = c.args.bytes.now in
-    let back = ap groups_in (held-now (goal.at.After-read_commands-rest c).After-loop-i) ∙ groups_back l.invariant.read in
+    let back = ap groups_in (held_now (goal.at.After-read_commands-rest c).After-loop-i) ∙ groups_back l.invariant.read in
     let whole =
-    sheet_groups bytes _ (omega arith) c.wide-count.ensures c.if-count-lt1.false c.if-count-gt64.false l.invariant.read _
+    sheet_groups bytes _ (omega arith) c.wide-count.ensures (omega arith) c.if-count-gt64.false l.invariant.read _
     (turns_all l.invariant (search rules)) in
     c.read_commands-rest.ensures ∙ ap sheet_answer (ap (λ (Ls : List (List ℕ)). commands Ls bytes l.at) back ∙ sym whole)
 
 pub returns-then-rest-ne0 : goal.returns-then-rest-ne0
 returns-then-rest-ne0 c =
-    c.refuse-then-rest-ne0.ensures ∙ refused_anew c.read_commands-rest.result _ (rest-is (goal.at.returns-then-rest-ne0 c).After-read_commands-rest) c.if-rest-ne0.true
+    c.refuse-then-rest-ne0.ensures ∙ refused_anew c.read_commands-rest.result _ (rest_is (goal.at.returns-then-rest-ne0 c).After-read_commands-rest) c.if-rest-ne0.true
 
 pub returns : goal.returns
-returns c = rest-is (goal.at.returns c).After-read_commands-rest
+returns c = rest_is (goal.at.returns c).After-read_commands-rest

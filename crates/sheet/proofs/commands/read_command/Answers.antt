@@ -15,7 +15,7 @@ at_body : (c : Else-sizes-g) → let a = c.args in
     command a.sizes.now a.s.now a.at
     ≡ body_at (get_or a.s.now a.at 0) (get_or a.s.now (a.at + 1) 0) (get_or a.sizes.now c.wide-g.result 0) a.s.now (a.at + 1 + 1)
 at_body c =
-    rw c.wide-g.ensures (command_body _ _ _ c.if-s-at.false c.if-s-place.false (rw c.wide-g.ensures at c.if-sizes-g.false))
+    rw c.wide-g.ensures (command_body _ _ _ c.if-s-at.false c.if-s-place.false (omega (arith, c.wide-g.ensures, c.if-sizes-g.false)))
 
 pub returns-then-s-at : goal.returns-then-s-at
 unfolding entry_answer
@@ -30,7 +30,7 @@ unfolding entry_answer
 returns-then-sizes-g c =
     c.refuse-then-sizes-g.ensures
     ∙ ap entry_answer
-    (sym (command_stray _ _ _ c.if-s-at.false c.if-s-place.false (rw c.wide-g.ensures at c.if-sizes-g.true)))
+    (sym (command_stray _ _ _ c.if-s-at.false c.if-s-place.false (omega (arith, c.wide-g.ensures, c.if-sizes-g.true))))
 
 pub rewrite_at-requires : goal.rewrite_at-requires
 rewrite_at-requires c =

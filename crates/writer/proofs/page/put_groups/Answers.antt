@@ -25,8 +25,8 @@ few c = c.if-count-gt64.false
 abbrev counted : (c : At-loop-i) → Groups
 counted c = c.args.groups
 
-first-is : (c : At-loop-i) → first group_number (take (counted c).count (counted c).list) ≡ groups_number (counted c)
-first-is c = groups_first _ c.if-count-lt1.false (few c)
+first_is : (c : At-loop-i) → first group_number (take (counted c).count (counted c).list) ≡ groups_number (counted c)
+first_is c = groups_first _ c.if-count-lt1.false (few c)
 
 -- as many groups as are counted are there
 all_there : (c : At-loop-i) → length (take (counted c).count (counted c).list) ≡ (counted c).count
@@ -37,10 +37,10 @@ abbrev none : Group
 none = record { n = 0; levels = [] }
 
 -- what was put of group i
-laid-now : (c : After-put_group-laid)
+laid_now : (c : After-put_group-laid)
     → let group = get_or (take (counted (goal.at.After-put_group-laid c).At-loop-i).count (counted (goal.at.After-put_group-laid c).At-loop-i).list) c.loop-i.i none in
     Lays (group_number group) 41 c.loop-i.out c.loop-i.at c.put_group-laid.new.out c.put_group-laid.result (group_bytes group)
-laid-now c =
+laid_now c =
     rw (get_or-take (counted (goal.at.After-put_group-laid c).At-loop-i).count (counted (goal.at.After-put_group-laid c).At-loop-i).list c.loop-i.i none c.loop-i-test.true) c.put_group-laid.ensures
 
 pub returns-then-count-lt1 : goal.returns-then-count-lt1
@@ -64,12 +64,12 @@ shape_of-out-then-laid-ne0 c =
 
 pub returns-then-laid-ne0 : goal.returns-then-laid-ne0
 returns-then-laid-ne0 c =
-    let stop = parts_stop c.loop-i.invariant (omega (arith, all_there (goal.at.returns-then-laid-ne0 c).At-loop-i, c.loop-i-test.true)) none (laid-now (goal.at.returns-then-laid-ne0 c).After-put_group-laid).numbered c.if-laid-ne0.true in
-    lays_refused c.refuse-then-laid-ne0.ensures (stop ∙ first-is (goal.at.returns-then-laid-ne0 c).At-loop-i) c.if-laid-ne0.true
+    let stop = parts_stop c.loop-i.invariant (omega (arith, all_there (goal.at.returns-then-laid-ne0 c).At-loop-i, c.loop-i-test.true)) none (laid_now (goal.at.returns-then-laid-ne0 c).After-put_group-laid).numbered c.if-laid-ne0.true in
+    lays_refused c.refuse-then-laid-ne0.ensures (stop ∙ first_is (goal.at.returns-then-laid-ne0 c).At-loop-i) c.if-laid-ne0.true
 
 pub loop-i-preserved : goal.loop-i-preserved
 loop-i-preserved c =
-    parts_next c.loop-i.invariant (omega (arith, all_there (goal.at.loop-i-preserved c).At-loop-i, c.loop-i-test.true)) none (laid-now (goal.at.loop-i-preserved c).After-put_group-laid) c.if-laid-ne0.false
+    parts_next c.loop-i.invariant (omega (arith, all_there (goal.at.loop-i-preserved c).At-loop-i, c.loop-i-test.true)) none (laid_now (goal.at.loop-i-preserved c).After-put_group-laid) c.if-laid-ne0.false
 
 pub shape_of-out : goal.shape_of-out
 shape_of-out c = c.loop-i.invariant.row.put.long ∙ c.put_little-at.ensures.long
@@ -80,5 +80,5 @@ returns c =
     let count = c.put_little-at.ensures in
     let inv = c.loop-i.invariant in
     let done : length (take (counted (goal.at.returns c).At-loop-i).count (counted (goal.at.returns c).At-loop-i).list) ≤ c.loop-i.i = omega (arith, c.loop-i-test.false, all_there (goal.at.returns c).At-loop-i) in
-    lays_put c.done.ensures (parts_clear inv done ∙ first-is (goal.at.returns c).At-loop-i) (puts_then count (parts_all inv done))
+    lays_put c.done.ensures (parts_clear inv done ∙ first_is (goal.at.returns c).At-loop-i) (puts_then count (parts_all inv done))
     (omega (arith, number_end 1 _ count, inv.row.short, inv.row.few, all_there (goal.at.returns c).At-loop-i, few (goal.at.returns c).At-loop-i))

@@ -11,8 +11,8 @@ use Rattle.writer.proofs.page.put_sheet.Goals as goal
 use Rattle.writer.proofs.page.put_sheet.Goals.{Else-laid-ne0}
 
 -- groups that were put without fault
-taken-now : (c : Else-laid-ne0) → GroupsTaken c.args.sheet.groups
-taken-now c = groups_taken _ (sym c.put_groups-laid.ensures.numbered ∙ c.if-laid-ne0.false)
+taken_now : (c : Else-laid-ne0) → GroupsTaken c.args.sheet.groups
+taken_now c = groups_taken _ (sym c.put_groups-laid.ensures.numbered ∙ c.if-laid-ne0.false)
 
 pub returns-then-laid-ne0 : goal.returns-then-laid-ne0
 unfolding sheet_number
@@ -25,7 +25,7 @@ put_commands-rest-requires c =
     let none = c.if-laid-ne0.false in
     let room = (c.put_groups-laid.ensures.put none).long in
     let list = (sheet_typed c.args.sheet _ c.well_formed.1.0).groups_long in
-    let t = taken-now (goal.at.put_commands-rest-requires c).Else-laid-ne0 in
+    let t = taken_now (goal.at.put_commands-rest-requires c).Else-laid-ne0 in
     (omega (arith, c.put_groups-laid.ensures.short none), (t.few, λ g h. (group_at_lem _ list t g h).few))
 
 pub returns-then-rest-ne0 : goal.returns-then-rest-ne0
@@ -47,7 +47,7 @@ put_zeros-requires c =
         (laid.put c.if-rest-ne0.false).long,
         c.requires,
       ),
-      (taken-now (goal.at.put_zeros-requires c).Else-laid-ne0).few,
+      (taken_now (goal.at.put_zeros-requires c).Else-laid-ne0).few,
     )
 
 pub returns : goal.returns
