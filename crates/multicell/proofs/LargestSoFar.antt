@@ -54,8 +54,8 @@ module _ {old new : List ℕ} (v : Priced old new) where
           (rw none at r.left) ∙ v.natural
 
       -- "their largest can't" be negative, so that it can be cast to a byte
-      pub running_cast : T (non_neg (x)) × Fits w8 (nat_abs (x))
+      pub running_cast : T (non_neg x) × Fits w8 (nat_abs x)
       running_cast = rw running_end (tt, record { fits = v.small })
 
-      pub running_cost : nat_abs (x) ≡ cost_of old new
+      pub running_cost : nat_abs x ≡ cost_of old new
       running_cost = ap nat_abs running_end
