@@ -80,7 +80,7 @@ pub fn highest(levels: &[u16]) -> u16
 }
 
 // What a count-up call is judged by: its number and, where that is 0, the highest level.
-#[derive(Drop)]
+#[derive(Clone, Copy)]
 pub struct Call {
     pub number: u8,
     pub top: u16,

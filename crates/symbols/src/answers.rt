@@ -1,6 +1,6 @@
 // What the jobs on symbols answer beside `Pushes`: a number first, 0 where the job is done.
 #[repr(C)]
-#[derive(Drop)]
+#[derive(Clone, Copy)]
 pub struct Symbol {
     pub number: u8,
     pub symbol: u64,
@@ -8,7 +8,7 @@ pub struct Symbol {
 
 // A prefix: its length, and its cells with 0 past them. Inside the crate (`row`) the other names stand between.
 #[repr(C)]
-#[derive(Drop)]
+#[derive(Clone, Copy)]
 pub struct Prefixed {
     pub number: u8,
     pub length: usize,

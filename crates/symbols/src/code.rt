@@ -7,7 +7,7 @@ use permutation::reasons::VALUE;
 use ranking::factorials::factorial_table;
 
 // The number of a code and, where that is 0, the length of its prefixes.
-#[derive(Drop)]
+#[derive(Clone, Copy)]
 pub struct Code {
     pub number: u8,
     pub length: usize,

@@ -9,7 +9,7 @@ use super::lengths::{plan_lengths, tail_sums};
 use permutation::cell::wide;
 
 // The symbols from heavy to light, and the lengths of their prefixes.
-#[derive(Drop)]
+#[derive(Clone, Copy)]
 pub struct Codebook {
     pub symbols: [u8; 64],
     pub lengths: [u8; 64],

@@ -5,7 +5,7 @@ ghost use Rattle.uneven.specs.Codebook.{HasTails, PlanAsked, PlanGiven};
 use charge::judge::addend;
 
 // Lengths, from an index on, and their sum by weight.
-#[derive(Drop)]
+#[derive(Clone, Copy)]
 pub struct Plan {
     pub cost: u32,
     pub lengths: [u8; 64],
