@@ -5,7 +5,7 @@
 - `specs/F`, `proofs/F` of crates/theory; `crate: F` (its specs/), `crate: specs/F`, `crate: proofs/F`; after these `: name`, a definition or theorem of that file
 - `Record.field`; `crate::file`, `crate::file::item`; `tm_name`, `TM_NAME` of the header; `rt must-fail crate`
 - a word alone: a definition, theorem, field, function, clause of a contract, struct, constant, edit, crate or file name, wherever it stands; after the word "edit" an edit
-- in a list after one of these, joined by commas, "and", "or", "with": of the same file, folder or record, as in `specs/Run: steps`, `pushCount`; `Demand3.gap`, `.jumps`
+- in a list after one of these, joined by commas, "and", "or", "with": of the same file, folder or record, as in `specs/Run: steps`, `push_count`; `Demand3.gap`, `.jumps`
 
 Each edit's name stands once in the repository, and in a row of a file in docs/map/. A link `](..)` is relative to the folder of its document.
 

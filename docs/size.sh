@@ -5,7 +5,7 @@ cd "$(dirname "$0")/.."
 lines() { find "crates/$1" -type f -exec cat {} + 2>/dev/null | wc -l; }
 {
     echo crate code specs proofs edits
-    for crate in $(sed -n 's/^\([a-z_]*\):.*/\1/p' crates.txt); do
+    for crate in $(sed -n 's/^\([a-z_]*\)[ a-z]*:.*/\1/p' crates.txt); do
         echo "$crate" "$(lines "$crate/src")" "$(lines "$crate/specs")" "$(lines "$crate/proofs")" "$(find "crates/$crate" -name '*.edit' | wc -l)"
     done
 } | awk '{ printf "%-12s %6s %6s %7s %6s\n", $1, $2, $3, $4, $5; for (i = 2; i <= 5; i++) sum[i] += $i }

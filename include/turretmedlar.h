@@ -1,7 +1,7 @@
 /* Turretmedlar: groups of 2 to 20 cells that store by order of charge, and arrangements of up to 64 cells with several to a level.
  *
- * The functions of the static library crates/turretmedlar/out/libturretmedlar.a, which `rt lib` in crates/turretmedlar proves and builds for x86-64 Linux (System V
- * calling convention; it needs memcpy, memmove and memset, and uses SSE registers). What each gives is proved, for every input value. "Document 01" is the scope paper
+ * The functions of the static library crates/turretmedlar/out/libturretmedlar.a, which `rt lib --cpu x86-64` in crates/turretmedlar proves and builds for x86-64
+ * Linux (System V calling convention; it needs memcpy, memmove and memset, and uses SSE registers). What each gives is proved, for every input value. "Document 01" is the scope paper
  * whose terms the comments name.
  *
  * A group's charge is a list of 16-bit levels, entry by cell name: levels[0] is the level of cell 1. A permutation (document 01: an order) lists the names

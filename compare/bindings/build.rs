@@ -1,4 +1,4 @@
-//! Links the static library that `rt lib` writes in crates/turretmedlar.
+//! Links the static library that `rt lib --cpu x86-64` writes in crates/turretmedlar.
 use std::env;
 use std::path::Path;
 
@@ -11,7 +11,7 @@ fn main() {
     let library = folder.join("libturretmedlar.a");
     println!("cargo:rerun-if-changed={}", library.display());
     if !library.exists() {
-        panic!("there is no {}: run `rt lib` in crates/turretmedlar", library.display());
+        panic!("there is no {}: run `rt lib --cpu x86-64` in crates/turretmedlar", library.display());
     }
     println!("cargo:rustc-link-search=native={}", folder.display());
     println!("cargo:rustc-link-lib=static=turretmedlar");

@@ -10,7 +10,7 @@ use Rattle.theory.specs.Lists.{member}
 use Rattle.theory.specs.Permutation.{IsPermutation, cell_at}
 use Rattle.theory.specs.Levels.{level, permutation_of}
 use Rattle.theory.proofs.Cases.{by_test, by_name}
-use Rattle.theory.proofs.Members.{Distinct, member_first, member_get_d, member_append, distinct_apart, permutation_distinct, cell_member}
+use Rattle.theory.proofs.Members.{Distinct, member_first, member_get_or, member_append, distinct_apart, permutation_distinct, cell_member}
 use Rattle.theory.proofs.Prefixes.{permutation_prefix}
 use Rattle.theory.proofs.Sorting.{permutation_of_permutation}
 use Rattle.charge.proofs.Indexing.{sorted_sinks}
@@ -76,7 +76,7 @@ module _ {L : List ℕ} {p : ℕ} {q : List ℕ} (fits : p ≤ length L) (l : Le
     reached : level L (get_or q i 0) ≤ level L (get_or xs i 0)
     reached =
         let x : ℕ = get_or q i 0 in
-        sorted_sinks L i x (after_cut xs i x (cell_member o x (l.prefix.named x (member_get_d q i in_q))) (rw before (entry_new q i l.prefix.distinct in_q)))
+        sorted_sinks L i x (after_cut xs i x (cell_member o x (l.prefix.named x (member_get_or q i in_q))) (rw before (entry_new q i l.prefix.distinct in_q)))
 
     -- and no cell but that of q reaches it
     same_cell : get_or xs i 0 ≡ get_or q i 0

@@ -1,20 +1,28 @@
 // What failed and why, told on standard error.
-use std::alloc::{AllocError, Global};
-use std::io::Error;
+use std::io::{Error, Write};
+
+// Longer than what the system says of any error.
+const ROOM: usize = 256;
 
 // The system's words, without its number, which Rattle puts behind them.
-fn reason(alloc: Global, error: &Error) -> Result<String, AllocError> {
-    let text = format!(in alloc; "{error}")?;
-    match text.as_str().split_once(" (os error ") {
-        Some((words, _)) => String::from_str(alloc, words),
-        None => Ok(text),
+fn words(said: &str) -> &str {
+    match said.split_once(" (os error ") {
+        Some((words, _)) => words,
+        None => said,
     }
 }
 
 // There is nowhere to tell that this failed.
-pub fn tell(rt: &(impl Eprint + AllocGlobal), what: &str, error: &Error) {
-    let _ = match reason(rt.alloc(), error) {
-        Ok(words) => eprintln!(rt; "{what}: {words}"),
+pub fn tell(rt: &impl Eprint, what: &str, error: &Error) {
+    let mut text = [0u8; ROOM];
+    let mut left: &mut [u8] = &mut text;
+    let _ = write!(left, "{error}");
+    let length = ROOM.saturating_sub(left.len());
+    let _ = match str::from_utf8(&text[..length]) {
+        Ok(said) => {
+            let reason = words(said);
+            eprintln!(rt; "{what}: {reason}")
+        }
         Err(_) => eprintln!(rt; "{what}: {error}"),
     };
 }

@@ -4,7 +4,7 @@ use mathlib.Core.List.{List, ◌++◌}
 use Prim.Native.Nat.{ℕ, ◌+◌, ◌≤◌, ◌<◌}
 use native.Mathlib.Omega.{arith}
 use lib.ListN.{length, get_or}
-use Rattle.theory.proofs.Padding.{get_d_any}
+use Rattle.theory.proofs.Padding.{get_or_any}
 use Rattle.theory.specs.Refusal.{or_else}
 use Rattle.sheet.specs.Held.{no_group}
 use Rattle.sheet.specs.declared.held.Group.{Group}
@@ -32,7 +32,7 @@ pub lays_named : (gs : Groups) (e : Entry) (g : ℕ) (d : Group) {b c : List ℕ
     → gs.count ≤ length gs.list → Lays (action_number (get_or gs.list g d).n e.command.action e.target) 22 b m c r xs
     → Lays (entry_number gs e) 22 b m c r xs
 lays_named gs e g d is below there l =
-    let any : get_or gs.list g d ≡ get_or gs.list g no_group = get_d_any gs.list g d no_group (omega arith) in
+    let any : get_or gs.list g d ≡ get_or gs.list g no_group = get_or_any gs.list g d no_group (omega arith) in
     rw (any, is, entry_named gs e (omega arith)) at l
 
 -- more bytes after a part without fault, in which nothing is judged

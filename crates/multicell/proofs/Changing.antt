@@ -7,7 +7,7 @@ use lib.IntN.{pos}
 use lib.ListN.{length, get_or, length-map, get_or-map}
 use Rattle.theory.specs.Levels.{highest}
 use Rattle.theory.proofs.Extremes.{entry≤highest, highest≤}
-use Rattle.theory.proofs.Padding.{get_d_any}
+use Rattle.theory.proofs.Padding.{get_or_any}
 use Rattle.multicell.specs.Arrangement.{IsArrangement, IsRaise}
 use Rattle.multicell.specs.Cost.{differences, largest, cost_of, raised_levels}
 use Rattle.multicell.specs.Claims.{IsLargest, LeastRaise}
@@ -16,7 +16,7 @@ use Rattle.multicell.proofs.Differences.{differences_length, cost_natural, cost_
 
 pub raised_at : (c : ℕ) (new : List ℕ) (i : ℕ) → i < length new → get_or (raised_levels c new) i 0 ≡ get_or new i 0 + c
 raised_at c new i l =
-    get_d_any (raised_levels c new) i 0 (0 + c) (omega (arith, length-map new (λ v. v + c))) ∙ get_or-map (λ v. v + c) new i 0
+    get_or_any (raised_levels c new) i 0 (0 + c) (omega (arith, length-map new (λ v. v + c))) ∙ get_or-map (λ v. v + c) new i 0
 
 module _ {q z : ℕ} {old new : List ℕ} (levels : 1 ≤ q) (cells : 1 ≤ z) (o : IsArrangement q z old) (w : IsArrangement q z new) where
   pub same : length old ≡ length new

@@ -9,11 +9,24 @@ use lib.IntN.{ℤ, pos, nat_abs, ◌-ℤ◌}
 use lib.Signed.{non_neg}
 use lib.ListN.{length, get_or, drop, drop_of_length-le}
 use lib.Seq.{drop-cons}
-use mir.Syntax.{w8}
-use mir.Val.{Fits}
+use mir.Syntax.{w8, w32}
+use mir.Val.{Fits, SFits, to_z}
+use mir.ValLaws.{to_z_pos}
+use Rattle.theory.proofs.Cases.{by_le}
 use Rattle.multicell.specs.Cost.{differences, maxℤ, largest_from, largest, cost_of}
 use Rattle.multicell.specs.Pricing.{Priced}
-use Rattle.multicell.proofs.Differences.{differences_length, differences_at}
+use Rattle.multicell.proofs.Differences.{difference_low, difference_high, differences_length, differences_at}
+
+-- ---- a difference of two bytes
+
+pub byte_read : (x : ℕ) → x < 256 → to_z w32 x ≡ pos x
+byte_read x h = to_z_pos w32 x (omega arith)
+
+pub byte_difference : (o n : ℕ) → o < 256 → n < 256 → SFits w32 (pos o -ℤ pos n)
+byte_difference o n h k =
+    by_le n o
+    (λ l. rw (difference_low o n l) (record { sfits = omega arith }))
+    (λ l. rw (difference_high o n l) (record { sfits = omega arith }))
 
 -- ---- the maximum
 

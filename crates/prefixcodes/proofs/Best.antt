@@ -17,7 +17,7 @@ use Rattle.theory.proofs.Prefixes.{names_distinct}
 use Rattle.prefixcodes.specs.Code.{PrefixFree, weight_of, weighted_length, sorted_lengths, IsBest}
 use Rattle.prefixcodes.specs.Construction.{heavy_first, dot, best_lengths, assign, best_prefixes, index_of, code_prefix}
 use Rattle.prefixcodes.specs.Leaves.{leaves}
-use Rattle.prefixcodes.proofs.Index.{index_of_lt, get_d_index_of}
+use Rattle.prefixcodes.proofs.Index.{index_of_lt, get_or_index_of}
 use Rattle.prefixcodes.proofs.Better.{ShortToLong, NoWorse, upto_first}
 use Rattle.prefixcodes.proofs.Plan.{Planned, plan_planned}
 use Rattle.prefixcodes.proofs.Arrange.{sorted_least, by_weight_length, sort_up_length}
@@ -134,9 +134,9 @@ module _ (n : ℕ) (ws : List ℕ) (two : 2 ≤ n) (few : length ws ≤ factoria
         some = λ s h. in_order.some (index_of s (heavy_first ws)) (place s h);
         short = λ s h. in_order.short (index_of s (heavy_first ws)) (place s h);
         free = λ s t h k b.
-            sym (get_d_index_of s (heavy_first ws) (by_weight_member ws (length ws) s h))
+            sym (get_or_index_of s (heavy_first ws) (by_weight_member ws (length ws) s h))
             ∙ ap (λ (i : ℕ). get_or (heavy_first ws) i 0) (in_order.free (index_of s (heavy_first ws)) (index_of t (heavy_first ws)) (place s h) (place t k) b)
-            ∙ get_d_index_of t (heavy_first ws) (by_weight_member ws (length ws) t k);
+            ∙ get_or_index_of t (heavy_first ws) (by_weight_member ws (length ws) t k);
       }
 
   -- the lengths of the prefixes, in the symbols' sequence

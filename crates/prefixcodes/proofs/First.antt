@@ -13,11 +13,11 @@ use Rattle.theory.specs.Factorial.{factorial}
 use Rattle.theory.specs.Prefix.{IsPrefix, prefixes, prefix_at, prefix_number}
 use Rattle.theory.specs.Claims.{Numbering}
 use Rattle.theory.proofs.Cases.{by_test, by_order}
-use Rattle.theory.proofs.Members.{member_get_d}
+use Rattle.theory.proofs.Members.{member_get_or}
 use Rattle.theory.proofs.Prefixes.{numbering}
 use Rattle.prefixcodes.specs.Code.{Ahead}
 use Rattle.prefixcodes.specs.Construction.{heavy_first, best_lengths, started, first_free, assign, best_prefixes, index_of, code_prefix}
-use Rattle.prefixcodes.proofs.Index.{index_of_lt, get_d_index_of, index_of_get_d}
+use Rattle.prefixcodes.proofs.Index.{index_of_lt, get_or_index_of, index_of_get_or}
 use Rattle.prefixcodes.proofs.Symbols.{by_weight_member, by_weight_below, by_weight_distinct}
 use Rattle.prefixcodes.proofs.Best.{many, lengths_many, code_length, code_best}
 use Rattle.prefixcodes.proofs.Sequence.{by_weight_in_turn, in_turn_at}
@@ -59,9 +59,9 @@ module _ (n : ℕ) (ws : List ℕ) (two : 2 ≤ n) (few : length ws ≤ factoria
       λ j m.
       let t : ℕ = get_or ss j 0 in
       let size : j < length ss = omega (arith, index_of_lt s ss here) in
-      let below : t < length ws = by_weight_below ws (length ws) t (member_get_d ss j size) in
-      let at : index_of t ss ≡ j = index_of_get_d ss j (by_weight_distinct ws (length ws)) size in
-      let ahead : Ahead ws t s = rw (get_d_index_of s ss here) at (in_turn_at ws ss (by_weight_in_turn ws (length ws)) j k m (index_of_lt s ss here)) in
+      let below : t < length ws = by_weight_below ws (length ws) t (member_get_or ss j size) in
+      let at : index_of t ss ≡ j = index_of_get_or ss j (by_weight_distinct ws (length ws)) size in
+      let ahead : Ahead ws t s = rw (get_or_index_of s ss here) at (in_turn_at ws ss (by_weight_in_turn ws (length ws)) j k m (index_of_lt s ss here)) in
       rw at at (f t below ahead) in
       let got = assign_at n [] ls k q within refl free in
       let numbers : Numbering n l = numbering n l (omega (arith, (code_best n ws two few).choice.short s h)) in

@@ -14,7 +14,7 @@ use Rattle.theory.proofs.Factorials.{factorial_pred, falling_factorial}
 use Rattle.theory.proofs.Members.{Distinct, member_first, member_length, distinct_without, without_one_length}
 use Rattle.theory.proofs.Numbering.{number_of, Over, over_tail}
 use Rattle.prefixcodes.specs.Construction.{index_of}
-use Rattle.prefixcodes.proofs.Index.{index_of_lt, get_d_index_of}
+use Rattle.prefixcodes.proofs.Index.{index_of_lt, get_or_index_of}
 
 -- the number of the first permutation that p leads, and how many it leads
 abbrev pub first_led : List ℕ → List ℕ → ℕ
@@ -95,7 +95,7 @@ led_apart free (c ∷ p) (e ∷ q) d hp hq b r =
     by_order (index_of c free) (index_of e free)
     (λ less. inl (omega (arith, mul-le-mul_right (factorial (length free - 1)) less, led_within (without (c ∷ []) free) p g.distinct g.tail)))
     (λ more. inr (omega (arith, mul-le-mul_right (factorial (length free - 1)) more, led_within (without (e ∷ []) free) q k.distinct k.tail)))
-    (λ same. absurd (other (sym (get_d_index_of c free g.mem) ∙ ap (λ (i : ℕ). get_or free i 0) same ∙ get_d_index_of e free k.mem))))
+    (λ same. absurd (other (sym (get_or_index_of c free g.mem) ∙ ap (λ (i : ℕ). get_or free i 0) same ∙ get_or_index_of e free k.mem))))
 
 -- a prefix's block starts at its number among the prefixes of its length, times the size of their blocks
 pub first_number_lem : (free p : List ℕ) → Distinct free → Over free p → first_led free p ≡ number_of free p * many_led free p

@@ -16,7 +16,7 @@ use Rattle.theory.proofs.Counts.{adds_between}
 use Rattle.theory.proofs.Permutations.{moved}
 use Rattle.theory.proofs.Members.{Distinct, permutation_distinct, distinct_left, distinct_drop, distinct_apart, distinct_without, member_append, member_without, without_none, without_without, without_at}
 use Rattle.theory.proofs.Names.{names_length, names_member, permutation_member}
-use Rattle.theory.proofs.Places.{place_of_low, place_of_high, place_of_member, place_of_get_d, cell_at_place_of}
+use Rattle.theory.proofs.Places.{place_of_low, place_of_high, place_of_member, place_of_get_or, cell_at_place_of}
 use Rattle.theory.proofs.Rows.{Rearranged}
 use Rattle.theory.proofs.Prefixes.{names_distinct}
 use Rattle.theory.proofs.Storing.{others_below}
@@ -208,7 +208,7 @@ module _ {row : List ℕ} {n p d : ℕ} (v : LedRow row n p d) where
       then_next ne =
           let pushed : (eqb d 1 && eqb c (top rest)) ≡ false =
           by_name d 1
-          (λ one e. rw e (ne_eqb c (top rest) (λ r. ne (omega (arith, one, ap (λ (b : ℕ). place_of b rest) r, place_of_get_d rest 0 rest_named.cells.distinct (omega (arith, short)))))))
+          (λ one e. rw e (ne_eqb c (top rest) (λ r. ne (omega (arith, one, ap (λ (b : ℕ). place_of b rest) r, place_of_get_or rest 0 rest_named.cells.distinct (omega (arith, short)))))))
           (λ more e. rw e) in
           rw (not_kept, pushed, next_kept, next_rest, ← without_without (c ∷ []) kept (names n))
           (after_more kept c (at_distance (without (c ∷ []) free) (without (c ∷ []) rest) (d - 1)))

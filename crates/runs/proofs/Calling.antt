@@ -123,7 +123,7 @@ module _ {L ks numbers₀ : List ℕ} {i : ℕ} {levels numbers : List ℕ} {pus
     levels = d.levels L start ks;
     highest_level = d.highest_level L start ks;
     run = ran;
-    value_read = run_values (record { few = few; many = start.few; untied = start.untied }) still ran;
+    value_read_lem = run_values (record { few = few; many = start.few; untied = start.untied }) still ran;
     start = d.level_start L start;
     call_done = λ i h room.
         let done = d.call_done L start (take i ks) (get_or ks i 0) room in

@@ -187,7 +187,7 @@ module _ (L : List ℕ) (k : ℕ) (g : call_number k L ≡ 0) where
       highest_level = ap highest v.levels_are ∙ highest_after k;
       start = start;
       run = ran;
-      value_read = run_values (readable past.0) still ran;
+      value_read_lem = run_values (readable past.0) still ran;
       gap = λ gapless. rw v.widest_is (widest_bound gapless k);
       jumps = λ gapless. rw v.largest_is (largest_bound gapless k);
     }

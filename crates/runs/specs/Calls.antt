@@ -52,7 +52,7 @@ pub record CallsOf (L ks L' numbers : List ℕ) (K : ℕ) : Type 0 where
       RunOf (length L) (permutation_of L) K (permutation_of L') (rank (length L) (permutation_of L'))
       (λ c. push_count (length L) c K (permutation_of L))
   -- document 02, request 7: so the value read from L' is the start's plus K, modulo n!, on the old zero and on the new
-  pub value_read : (z : Zero) → value_read L' z ≡ record { number = 0; value = ((value_read L z).value + K) % factorial (length L) }
+  pub value_read_lem : (z : Zero) → value_read L' z ≡ record { number = 0; value = ((value_read L z).value + K) % factorial (length L) }
   -- call i is "done, with number 0 and k pushes, exactly when the top standing then plus k is at most 65,535. Otherwise it gives number 6 and 0 pushes,
   -- and the list stays as it was"
   pub call_done :

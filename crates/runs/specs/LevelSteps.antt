@@ -60,7 +60,7 @@ pub record LevelsOf (L : List ℕ) (k : ℕ) (L' : List ℕ) (r : RanLevels) : T
   pub start : IsPermutation (length L) (permutation_of L)
   pub run : RunOf (length L) (permutation_of L) k (permutation_of L') r.rank (count_in r.counts)
   -- document 02, request 7: so the value read from L' is the start's plus k, modulo n!, on the old zero and on the new
-  pub value_read : (z : Zero) → value_read L' z ≡ record { number = 0; value = ((value_read L z).value + k) % factorial (length L) }
+  pub value_read_lem : (z : Zero) → value_read L' z ≡ record { number = 0; value = ((value_read L z).value + k) % factorial (length L) }
   -- from levels without a gap, over all k steps: top less bottom is at most n, and no push raises a cell by more than n + 1
   pub gap : Gapless L → r.widest ≤ length L
   pub jumps : Gapless L → r.largest ≤ length L + 1

@@ -1,4 +1,4 @@
-// Sheets from data/, as the arguments name them: the name, its text, and for a sheet without fault the line w. A file that cannot be opened ends the run; one that
+// Sheets from data/, as the arguments name them: the name, its text, and for a sheet without fault the line w. A file that cannot be opened, or whose name is no UTF-8, ends the run; one that
 // cannot be read shows as an early end.
 #![tactic(auto)]
 
@@ -6,11 +6,11 @@ mod again; // a sheet without fault written again
 mod input; // a file's bytes
 mod told; // what failed
 
-use std::io::{Error, ErrorKind, Result};
+use std::io::Result;
 use std::rt::{Env, Files};
 
 // It answers whether the file could be opened.
-fn print_named(rt: &(impl AllocGlobal + Eprint + Files + Print), name: &str) -> Result<bool> {
+fn print_named(rt: &(impl Eprint + Files + Print), name: &str) -> Result<bool> {
     let mut sheet = text::buffers::sheet_buffer();
     let mut text = text::buffers::text_buffer();
     let n = match input::read_file(rt, name, &mut sheet) {
@@ -29,7 +29,7 @@ fn print_named(rt: &(impl AllocGlobal + Eprint + Files + Print), name: &str) -> 
 }
 
 // Prints the sheet that argument i names. There is none past the last argument.
-fn print_sheet(rt: &(impl AllocGlobal + Env + Eprint + Files + Print), i: usize) -> Result<bool> {
+fn print_sheet(rt: &(impl Env + Eprint + Files + Print), i: usize) -> Result<bool> {
     let mut path = io::buffer();
     let named = rt.arg(i, &mut path).unwrap_or(0);
     if named == 0 {
@@ -37,7 +37,11 @@ fn print_sheet(rt: &(impl AllocGlobal + Env + Eprint + Files + Print), i: usize)
     }
     match str::from_utf8(&path[..named]) {
         Ok(name) => print_named(rt, name),
-        Err(_) => Err(Error::new(ErrorKind::InvalidInput, "a name is no text")),
+        // std opens a file by text alone
+        Err(_) => {
+            let _ = eprintln!(rt; "argument {i}: its name is no text");
+            Ok(false)
+        }
     }
 }
 

@@ -11,12 +11,12 @@ use Rattle.theory.specs.Levels.{level, highest, tied}
 use Rattle.theory.proofs.Cases.{by_test, by_name, by_le}
 use Rattle.theory.proofs.Permutations.{inside}
 use Rattle.theory.proofs.Members.{Distinct, permutation_distinct, member_count, member_first, member_later, distinct_head, distinct_tail, distinct_cons, cell_member}
-use Rattle.theory.proofs.Padding.{get_d_any}
+use Rattle.theory.proofs.Padding.{get_or_any}
 use Rattle.theory.proofs.Ties.{Apart, untied_apart, apart_untied}
 
 module _ (L : List ℕ) where
   pub along_at : (xs : List ℕ) (j : ℕ) → j < length xs → get_or (map (level L) xs) j 0 ≡ level L (get_or xs j 0)
-  along_at xs j h = get_d_any (map (level L) xs) j 0 (level L 0) (omega (arith, length-map xs (level L))) ∙ get_or-map (level L) xs j 0
+  along_at xs j h = get_or_any (map (level L) xs) j 0 (level L 0) (omega (arith, length-map xs (level L))) ∙ get_or-map (level L) xs j 0
 
   pub along_drop : (k : ℕ) (xs : List ℕ) → drop k (map (level L) xs) ≡ map (level L) (drop k xs)
   along_drop zero xs = refl

@@ -58,10 +58,10 @@ member_drop c k xs m =
     let whole : take k xs ++ drop k xs ≡ xs = take-append-drop k xs in
     rw (← whole, member_append c (take k xs) (drop k xs), m) (or-true (member c (take k xs)))
 
-pub member_get_d : (xs : List ℕ) (j : ℕ) → j < length xs → member (get_or xs j 0) xs ≡ true
-member_get_d [] j h = absurd (omega arith)
-member_get_d (x ∷ xs) zero h = member_first x xs
-member_get_d (x ∷ xs) (suc j) h = member_later (get_or xs j 0) x xs (member_get_d xs j (le_of_suc-le-suc h))
+pub member_get_or : (xs : List ℕ) (j : ℕ) → j < length xs → member (get_or xs j 0) xs ≡ true
+member_get_or [] j h = absurd (omega arith)
+member_get_or (x ∷ xs) zero h = member_first x xs
+member_get_or (x ∷ xs) (suc j) h = member_later (get_or xs j 0) x xs (member_get_or xs j (le_of_suc-le-suc h))
 
 -- a name is a member where it stands at least once
 pub member_count : (c : ℕ) (xs : List ℕ) → member c xs ≡ true → 1 ≤ count c xs
@@ -195,7 +195,7 @@ without_at [] j d h = absurd (omega arith)
 without_at (x ∷ xs) zero d h = cc (eq-eqb x x refl, without_absent x xs (distinct_head x xs d))
 without_at (x ∷ xs) (suc j) d h =
     let c : ℕ = get_or xs j 0 in
-    let ne : eqb c x ≡ false = member_differs c x xs (distinct_head x xs d) (member_get_d xs j (le_of_suc-le-suc h)) in
+    let ne : eqb c x ≡ false = member_differs c x xs (distinct_head x xs d) (member_get_or xs j (le_of_suc-le-suc h)) in
     cc (eqb_sym x c, without_at xs j (distinct_tail x xs d) (le_of_suc-le-suc h))
 
 pub distinct_without : (a xs : List ℕ) → Distinct xs → Distinct (without a xs)
@@ -209,7 +209,7 @@ distinct_without a (x ∷ xs) d =
 
 -- each entry of a permutation is a cell
 pub entry_inside : {n : ℕ} {xs : List ℕ} → IsPermutation n xs → (i : ℕ) → i < length xs → (1 ≤ get_or xs i 0) × (get_or xs i 0 ≤ n)
-entry_inside {n} {xs} o i h = inside n xs o (get_or xs i 0) (member_count (get_or xs i 0) xs (member_get_d xs i h))
+entry_inside {n} {xs} o i h = inside n xs o (get_or xs i 0) (member_count (get_or xs i 0) xs (member_get_or xs i h))
 
 -- and each cell stands in it
 pub cell_member : {n : ℕ} {xs : List ℕ} → IsPermutation n xs → (c : ℕ) → (1 ≤ c) × (c ≤ n) → member c xs ≡ true

@@ -15,9 +15,9 @@ use Rattle.theory.specs.Factorial.{falling}
 use Rattle.theory.specs.Permutation.{place_of}
 use Rattle.theory.specs.Prefix.{prefixes}
 use Rattle.theory.proofs.Cases.{by_test, by_name, by_le, by_order}
-use Rattle.theory.proofs.Members.{Distinct, Among, distinct_head, distinct_tail, distinct_cons, distinct_without, member_first, member_later, member_differs, member_get_d, member_without, without_among, without_one_length}
+use Rattle.theory.proofs.Members.{Distinct, Among, distinct_head, distinct_tail, distinct_cons, distinct_without, member_first, member_later, member_differs, member_get_or, member_without, without_among, without_one_length}
 use Rattle.theory.proofs.Names.{Ascending, ascending_distinct, ascending_without}
-use Rattle.theory.proofs.Places.{place_of_low, place_of_high, cell_at_place_of, place_of_get_d}
+use Rattle.theory.proofs.Places.{place_of_low, place_of_high, cell_at_place_of, place_of_get_or}
 
 -- how many prefixes go on with p names after a first one
 abbrev pub weight : ℕ → List ℕ → ℕ
@@ -114,7 +114,7 @@ first p free s d l =
     let w : ℕ = weight p free in
     let pos : 0 < w = weight_positive (length free) w s l in
     let index : s / w < length free = (div-lt_iff_lt-mul pos).1 l in
-    let here : member (first_name p free s) free ≡ true = member_get_d free (s / w) index in
+    let here : member (first_name p free s) free ≡ true = member_get_or free (s / w) index in
     record {
       index = index;
       here = here;
@@ -124,10 +124,10 @@ first p free s d l =
     }
 
 -- entry j of the prefixes that begin with c
-get_d_map_cons : (c : ℕ) (qs : List (List ℕ)) (j : ℕ) → j < length qs → get_or (map (λ q. c ∷ q) qs) j [] ≡ c ∷ get_or qs j []
-get_d_map_cons c [] j l = absurd (omega arith)
-get_d_map_cons c (q ∷ qs) zero l = refl
-get_d_map_cons c (q ∷ qs) (suc j) l = get_d_map_cons c qs j (le_of_suc-le-suc l)
+get_or_map_cons : (c : ℕ) (qs : List (List ℕ)) (j : ℕ) → j < length qs → get_or (map (λ q. c ∷ q) qs) j [] ≡ c ∷ get_or qs j []
+get_or_map_cons c [] j l = absurd (omega arith)
+get_or_map_cons c (q ∷ qs) zero l = refl
+get_or_map_cons c (q ∷ qs) (suc j) l = get_or_map_cons c qs j (le_of_suc-le-suc l)
 
 -- entry s of the enumeration is the prefix that the digits of s choose
 pub prefixes_at : (p : ℕ) (free : List ℕ) (s : ℕ) → Distinct free → s < falling (length free) p → get_or (prefixes p free) s [] ≡ prefix_of p free s
@@ -140,7 +140,7 @@ prefixes_at (suc p) free s d l =
     let c : ℕ = first_name p free s in
     let left : List ℕ = without (c ∷ []) free in
     flat_map_at (block p free) w free s (block_length p (prefixes_length p) free d) (omega (arith, g.digit)) l
-    ∙ get_d_map_cons c (prefixes p left) (s % w) (omega (arith, g.fits, prefixes_length p left g.left))
+    ∙ get_or_map_cons c (prefixes p left) (s % w) (omega (arith, g.fits, prefixes_length p left g.left))
     ∙ ap (λ (q : List ℕ). c ∷ q) (prefixes_at p left (s % w) g.left g.fits)
 
 pub prefix_of_length : (p : ℕ) (free : List ℕ) (s : ℕ) → length (prefix_of p free s) ≡ p
@@ -185,7 +185,7 @@ number_of_prefix_of (suc p) free s d l =
     let w : ℕ = weight p free in
     let g : First p free s = first p free s d l in
     let left : List ℕ = without (first_name p free s ∷ []) free in
-    let at : place_of (first_name p free s) free - 1 ≡ s / w = omega (arith, place_of_get_d free (s / w) d g.index) in
+    let at : place_of (first_name p free s) free - 1 ≡ s / w = omega (arith, place_of_get_or free (s / w) d g.index) in
     cc (prefix_of_length p left (s % w), number_of_prefix_of p left (s % w) g.left g.fits, div-add-mod' s w)
 
 pub number_of_below : (free q : List ℕ) → Distinct free → Over free q → number_of free q < falling (length free) (length q)
@@ -214,11 +214,11 @@ prefix_of_number_of free (c ∷ q) d h =
     let below : r < w = rw (weight_left (length q) free d c m) at (number_of_below left q dl tail) in
     cc (digits_div i below, digits_mod i below, cell_at_place_of c free m, prefix_of_number_of left q dl tail)
 
-get_d_ascends : (xs : List ℕ) (i j : ℕ) → Ascending xs → i < j → j < length xs → get_or xs i 0 < get_or xs j 0
-get_d_ascends [] i j a l h = absurd (omega arith)
-get_d_ascends (x ∷ xs) i zero a l h = absurd (omega arith)
-get_d_ascends (x ∷ xs) zero (suc j) a l h = a.0 (get_or xs j 0) (member_get_d xs j (le_of_suc-le-suc h))
-get_d_ascends (x ∷ xs) (suc i) (suc j) a l h = get_d_ascends xs i j a.1 (le_of_suc-le-suc l) (le_of_suc-le-suc h)
+get_or_ascends : (xs : List ℕ) (i j : ℕ) → Ascending xs → i < j → j < length xs → get_or xs i 0 < get_or xs j 0
+get_or_ascends [] i j a l h = absurd (omega arith)
+get_or_ascends (x ∷ xs) i zero a l h = absurd (omega arith)
+get_or_ascends (x ∷ xs) zero (suc j) a l h = a.0 (get_or xs j 0) (member_get_or xs j (le_of_suc-le-suc h))
+get_or_ascends (x ∷ xs) (suc i) (suc j) a l h = get_or_ascends xs i j a.1 (le_of_suc-le-suc l) (le_of_suc-le-suc h)
 
 -- over names that ascend, the prefix of the lower number comes first: by its first digit, or by the rest where that is the same
 pub prefix_of_before :
@@ -233,7 +233,7 @@ prefix_of_before (suc p) free s t a l u =
     let es : s / w * w + s % w ≡ s = div-add-mod' s w in
     let et : t / w * w + t % w ≡ t = div-add-mod' t w in
     by_order (s / w) (t / w)
-    (λ less. Lexᴰ.rel (get_d_ascends free (s / w) (t / w) a less g.index))
+    (λ less. Lexᴰ.rel (get_or_ascends free (s / w) (t / w) a less g.index))
     (λ more. absurd (omega (arith, mul-le-mul_right w more, g.digit)))
     (λ same.
     let c : first_name p free s ≡ first_name p free t = ap (λ (i : ℕ). get_or free i 0) same in

@@ -14,10 +14,10 @@ use Rattle.theory.proofs.Cases.{by_le}
 -- ---- lists
 
 -- inside a list, what stands past its end does not matter
-pub get_d_any : {A : Type 0} (l : List A) (i : ℕ) (d e : A) → i < length l → get_or l i d ≡ get_or l i e
-get_d_any [] i d e h = absurd (omega arith)
-get_d_any (x ∷ l) zero d e h = refl
-get_d_any (x ∷ l) (suc i) d e h = get_d_any l i d e (omega arith)
+pub get_or_any : {A : Type 0} (l : List A) (i : ℕ) (d e : A) → i < length l → get_or l i d ≡ get_or l i e
+get_or_any [] i d e h = absurd (omega arith)
+get_or_any (x ∷ l) zero d e h = refl
+get_or_any (x ∷ l) (suc i) d e h = get_or_any l i d e (omega arith)
 
 pub map_set : {A B : Type 0} (f : A → B) (l : List A) (i : ℕ) (a : A) → set (map f l) i (f a) ≡ map f (set l i a)
 map_set f [] i a = refl
@@ -64,7 +64,7 @@ pub padded_map_at : {A B : Type 0} (room : ℕ) (z : B) (f : A → B) (xs : List
     → get_or (padded room z (map f xs)) i d ≡ f (get_or xs i e)
 padded_map_at room z f xs i d e h =
     let there : i < length (map f xs) = omega (arith, length-map xs f) in
-    get_or-append (map f xs) _ d i there ∙ get_d_any (map f xs) i d (f e) there ∙ get_or-map f xs i e
+    get_or-append (map f xs) _ d i there ∙ get_or_any (map f xs) i d (f e) there ∙ get_or-map f xs i e
 
 -- ---- a row of twenty
 

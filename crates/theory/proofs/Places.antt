@@ -11,7 +11,7 @@ use borrow.Author.Tests.{eq-eqb, ne_eqb}
 use Rattle.theory.specs.Lists.{member}
 use Rattle.theory.specs.Permutation.{cell_at, top, place_of}
 use Rattle.theory.proofs.Cases.{by_test, by_name, eqb_sym}
-use Rattle.theory.proofs.Members.{Distinct, distinct_head, distinct_tail, member_differs, member_get_d}
+use Rattle.theory.proofs.Members.{Distinct, distinct_head, distinct_tail, member_differs, member_get_or}
 
 pub place_of_low : (c : ℕ) (xs : List ℕ) → 1 ≤ place_of c xs
 unfolding place_of
@@ -52,11 +52,11 @@ place_of_lower c [] m e = absurd (false≢true m)
 place_of_lower c (x ∷ xs) m e = rw e (omega (arith, place_of_low c xs))
 
 -- the place of the cell at an index
-pub place_of_get_d : (xs : List ℕ) (i : ℕ) → Distinct xs → i < length xs → place_of (get_or xs i 0) xs ≡ suc i
+pub place_of_get_or : (xs : List ℕ) (i : ℕ) → Distinct xs → i < length xs → place_of (get_or xs i 0) xs ≡ suc i
 unfolding place_of
-place_of_get_d [] i d h = absurd (omega arith)
-place_of_get_d (x ∷ xs) zero d h = cc (eq-eqb x x refl)
-place_of_get_d (x ∷ xs) (suc i) d h =
+place_of_get_or [] i d h = absurd (omega arith)
+place_of_get_or (x ∷ xs) zero d h = cc (eq-eqb x x refl)
+place_of_get_or (x ∷ xs) (suc i) d h =
     let c : ℕ = get_or xs i 0 in
-    let ne : eqb c x ≡ false = member_differs c x xs (distinct_head x xs d) (member_get_d xs i (le_of_suc-le-suc h)) in
-    cc (eqb_sym x c, place_of_get_d xs i (distinct_tail x xs d) (le_of_suc-le-suc h))
+    let ne : eqb c x ≡ false = member_differs c x xs (distinct_head x xs d) (member_get_or xs i (le_of_suc-le-suc h)) in
+    cc (eqb_sym x c, place_of_get_or xs i (distinct_tail x xs d) (le_of_suc-le-suc h))

@@ -16,7 +16,7 @@ use Rattle.theory.specs.Claims.{Rewriting}
 use Rattle.theory.proofs.Cases.{by_test, by_name, by_le}
 use Rattle.theory.proofs.Counts.{count_append, count_reverse}
 use Rattle.theory.proofs.Permutations.{inside}
-use Rattle.theory.proofs.Members.{member_count, Distinct, Same, Among, permutation_distinct, distinct_head, distinct_left, distinct_drop, distinct_apart, member_first, member_append, member_take, member_get_d}
+use Rattle.theory.proofs.Members.{member_count, Distinct, Same, Among, permutation_distinct, distinct_head, distinct_left, distinct_drop, distinct_apart, member_first, member_append, member_take, member_get_or}
 use Rattle.theory.proofs.Names.{permutation_member}
 use Rattle.theory.proofs.Least.{least_holds, least_bound, least_min}
 use Rattle.theory.proofs.Splits.{drop_last}
@@ -116,7 +116,7 @@ module _ (xs t : List ℕ) (dx : Distinct xs) (dt : Distinct t) (same : Same xs 
       let out : member c s ≡ false = distinct_head c s (rw parts at (distinct_drop k t dt)) in
       by_name (top xs) c
       (λ q f.
-      let more : Sublistᴰ (drop k t) xs = rw parts (top_sublist c s xs (same c ∙ member_get_d t k high) q out (rw e at (rewrite_sublist xs t))) in
+      let more : Sublistᴰ (drop k t) xs = rw parts (top_sublist c s xs (same c ∙ member_get_or t k high) q out (rw e at (rewrite_sublist xs t))) in
       absurd (omega (arith, rewrite_least xs t k more)))
       (λ q f. f)
 
@@ -162,7 +162,7 @@ module _ (xs t : List ℕ) (dx : Distinct xs) (dt : Distinct t) (same : Same xs 
       let k : ℕ = length t - 1 in
       let c : ℕ = get_or t k 0 in
       let one : drop k t ≡ c ∷ [] = drop_last (length t) t pos refl in
-      rewrite_least xs t k (rw one (sublist_one c xs (same c ∙ member_get_d t k (omega arith))))
+      rewrite_least xs t k (rw one (sublist_one c xs (same c ∙ member_get_or t k (omega arith))))
 
   -- after any row of pushes that gives the target, the cells below the pushed ones stand as they did
   pub rewrite_fewest : (is : List ℕ) → Places (length xs) is → pushes is xs ≡ t → rewrite_count xs t ≤ length is

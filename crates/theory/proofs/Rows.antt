@@ -11,7 +11,7 @@ use Rattle.theory.specs.Lists.{member, without}
 use Rattle.theory.specs.Permutation.{IsPermutation, cell_at, top, place_of}
 use Rattle.theory.specs.Push.{push, pushes, Places, push_cell, push_cells, cell_places}
 use Rattle.theory.proofs.Cases.{by_test, by_name, eqb_sym}
-use Rattle.theory.proofs.Members.{Distinct, Same, Among, permutation_distinct, distinct_head, distinct_tail, distinct_cons, distinct_without, member_first, member_length, member_append, member_get_d, member_without, among_tail, without_none, without_absent, without_same, without_append, without_without, without_length, without_one_length, without_at}
+use Rattle.theory.proofs.Members.{Distinct, Same, Among, permutation_distinct, distinct_head, distinct_tail, distinct_cons, distinct_without, member_first, member_length, member_append, member_get_or, member_without, among_tail, without_none, without_absent, without_same, without_append, without_without, without_length, without_one_length, without_at}
 use Rattle.theory.proofs.Names.{permutation_member, names_permutation}
 use Rattle.theory.proofs.Places.{place_of_low, place_of_high, place_of_lower, cell_at_place_of}
 
@@ -133,7 +133,7 @@ module _ (xs : List ℕ) (d : Distinct xs) where
 
 push_rearranged : (i : ℕ) (xs : List ℕ) → Distinct xs → 2 ≤ i → i ≤ length xs → Rearranged xs (push i xs)
 push_rearranged i xs d low high =
-    rw (push_bring i xs d (omega arith) high) (bring_rearranged (cell_at i xs) xs d (member_get_d xs (i - 1) (omega arith)))
+    rw (push_bring i xs d (omega arith) high) (bring_rearranged (cell_at i xs) xs d (member_get_or xs (i - 1) (omega arith)))
 
 -- cells brought to the top one after another
 abbrev pub bring_all : List ℕ → List ℕ → List ℕ

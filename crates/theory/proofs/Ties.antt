@@ -10,7 +10,7 @@ use Rattle.theory.specs.Permutation.{place_of}
 use Rattle.theory.specs.Levels.{level, tied}
 use Rattle.theory.proofs.Cases.{by_test}
 use Rattle.theory.proofs.Members.{distinct_cons}
-use Rattle.theory.proofs.Places.{place_of_low, place_of_high, cell_at_place_of, place_of_get_d}
+use Rattle.theory.proofs.Places.{place_of_low, place_of_high, cell_at_place_of, place_of_get_or}
 use Rattle.theory.proofs.Extremes.{level_suc}
 
 -- no two cells have one level
@@ -19,7 +19,7 @@ Apart L = (c d : ℕ) → 1 ≤ c → c < d → d ≤ length L → level L c ≡
 
 entries_apart : (L : List ℕ) → repeats L ≡ false → (i j : ℕ) → i < j → j < length L → get_or L i 0 ≡ get_or L j 0 → ⊥
 entries_apart L h i j l k e =
-    omega (arith, place_of_get_d L i h (omega arith), place_of_get_d L j h k, ap (λ (x : ℕ). place_of x L) e)
+    omega (arith, place_of_get_or L i h (omega arith), place_of_get_or L j h k, ap (λ (x : ℕ). place_of x L) e)
 
 pub untied_apart : (L : List ℕ) → tied L ≡ false → Apart L
 untied_apart L h c d low less high e = entries_apart L h (c - 1) (d - 1) (omega arith) (omega arith) e

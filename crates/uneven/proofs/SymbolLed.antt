@@ -15,7 +15,7 @@ use Rattle.theory.specs.Factorial.{factorial}
 use Rattle.theory.specs.Permutation.{IsPermutation}
 use Rattle.theory.specs.Prefix.{IsPrefix, prefix_number}
 use Rattle.theory.proofs.Cases.{by_test, by_le}
-use Rattle.theory.proofs.Members.{member_get_d}
+use Rattle.theory.proofs.Members.{member_get_or}
 use Rattle.theory.proofs.Names.{names_length}
 use Rattle.theory.proofs.Numbering.{number_of, Over}
 use Rattle.theory.proofs.Prefixes.{names_distinct, prefix_over, permutation_prefix, prefix_number_number_of}
@@ -23,7 +23,7 @@ use Rattle.symbols.specs.declared.answers.Symbol.{Symbol}
 use Rattle.prefixcodes.specs.Construction.{heavy_first, best_lengths, index_of, code_prefix, code_symbol}
 use Rattle.prefixcodes.specs.Leaves.{leaves}
 use Rattle.uneven.specs.Codebook.{HasCode, HoldsCode, IndexLed, uneven_read}
-use Rattle.prefixcodes.proofs.Index.{index_of_get_d}
+use Rattle.prefixcodes.proofs.Index.{index_of_get_or}
 use Rattle.prefixcodes.proofs.LedBlock.{first_led, many_led, led_nested, led_apart, first_number_lem, begins_back}
 use Rattle.prefixcodes.proofs.Arrange.{by_weight_length}
 use Rattle.prefixcodes.proofs.Assign.{Block}
@@ -91,10 +91,10 @@ module _ {n : ℕ} {ws symbols lengths xs : List ℕ} (v : HasCode n ws) (holds 
     s = get_or (heavy_first ws) k 0
 
     below : s < length ws
-    below = by_weight_below ws (length ws) s (member_get_d (heavy_first ws) k (omega (arith, by_weight_length ws (length ws))))
+    below = by_weight_below ws (length ws) s (member_get_or (heavy_first ws) k (omega (arith, by_weight_length ws (length ws))))
 
     index_is : index_of s (heavy_first ws) ≡ k
-    index_is = index_of_get_d (heavy_first ws) k (by_weight_distinct ws (length ws)) (omega (arith, by_weight_length ws (length ws)))
+    index_is = index_of_get_or (heavy_first ws) k (by_weight_distinct ws (length ws)) (omega (arith, by_weight_length ws (length ws)))
 
     leads : begins (code_prefix n ws s) xs ≡ true
     leads =

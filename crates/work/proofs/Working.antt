@@ -9,7 +9,7 @@ use lib.Seq.{drop-append_seam, take_all, take_at, get_or-take, set-append_left, 
 use Rattle.theory.specs.Lists.{padded}
 use Rattle.theory.specs.InTurn.{left_by}
 use Rattle.theory.proofs.Cases.{by_name}
-use Rattle.theory.proofs.Padding.{get_d_any, map_set}
+use Rattle.theory.proofs.Padding.{get_or_any, map_set}
 use Rattle.theory.proofs.FilledRow.{row_all}
 use Rattle.theory.proofs.InTurn as turns
 use Rattle.theory.proofs.InTurn.{left_keeps, left_next, InTurn, turn_none, turn_more, turn_left}
@@ -167,7 +167,7 @@ module _ {sheet : Sheet} (h : SheetHeld sheet) where
         pub index_below : (g < groups.count) × (groups.count ≤ 64)
         index_below =
             let named = h.valid.named i there in
-            let same : get_or (contents_of sheet).entries i no_entry ≡ next = get_d_any (contents_of sheet).entries i no_entry d there ∙ next_is in
+            let same : get_or (contents_of sheet).entries i no_entry ≡ next = get_or_any (contents_of sheet).entries i no_entry d there ∙ next_is in
             rw (left_count, is) (rw same at named, h.valid.few)
 
         pub step : (z : Group) {r : Acted} → r ≡ acted next.command.action next.target (levels_of (get_or groups.list g z))
@@ -193,7 +193,7 @@ module _ {sheet : Sheet} (h : SheetHeld sheet) where
             let at : get_or zeros g z ≡ get_or zs next.command.group on_old =
             ap (λ (l : List GroupZero). get_or l g z) so
             ∙ get_or-append zs _ z g inside
-            ∙ get_d_any zs g z on_old inside
+            ∙ get_or_any zs g z on_old inside
             ∙ ap (λ (k : ℕ). get_or zs k on_old) is in
             let after : set zs g r ≡ zeros_after_all (contents_of sheet).zeros (take (i + 1) (contents_of sheet).entries) =
             rw (e, at, is) (sym (rw (add-one i, ← next_is) (left_next zeros_after (contents_of sheet).entries (contents_of sheet).zeros i d there))) in

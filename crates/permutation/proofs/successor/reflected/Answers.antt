@@ -1,6 +1,5 @@
 -- `permutation::successor::reflected` meets its contract: each turn puts the next cell from the bottom into the row. Assumes nothing.
 use mathlib.Core.Path.{sym}
-use Prim.Native.Nat.{◌-◌}
 use native.Mathlib.Omega.{arith}
 use Rattle.theory.proofs.FilledRow.{filled_more, row_none, row_all}
 use Rattle.permutation.proofs.Reflecting.{smaller_length, smaller_at}

@@ -5,7 +5,7 @@ use Prim.Native.Nat.{◌≤◌, ◌<◌}
 use native.Mathlib.Omega.{arith}
 use lib.ListN.{length, take, get_or}
 use lib.Seq.{get_or-take}
-use Rattle.theory.proofs.Padding.{get_d_any}
+use Rattle.theory.proofs.Padding.{get_or_any}
 use Rattle.sheet.specs.Held.{no_group}
 use Rattle.sheet.specs.Typed.{SheetTyped}
 use Rattle.sheet.specs.declared.held.Action.TheVariants.{Count}
@@ -83,7 +83,7 @@ put_command-laid-requires c =
     let count = c.put_little-at.ensures in
     let row = c.loop-i.invariant.row in
     let small = c.requires.1 in
-    let any = get_d_any (held (goal.at.put_command-laid-requires c).At-loop-i).groups.list c.wide-g.result group_past no_group (omega (arith, small.0, c.if-total-g.false, (typed (goal.at.put_command-laid-requires c).At-loop-i).groups_long)) in (
+    let any = get_or_any (held (goal.at.put_command-laid-requires c).At-loop-i).groups.list c.wide-g.result group_past no_group (omega (arith, small.0, c.if-total-g.false, (typed (goal.at.put_command-laid-requires c).At-loop-i).groups_long)) in (
       omega (arith, c.requires.0, few (goal.at.put_command-laid-requires c).At-loop-i, c.loop-i-test.true, count.long, number_end 2 _ count, row.put.long, row.short),
       rw any (small.1 _ (omega (arith, c.if-total-g.false))),
     )
