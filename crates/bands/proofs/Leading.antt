@@ -43,7 +43,7 @@ module _ {L xs : List ℕ} (o : IsPermutation (length L) xs) (p : ℕ) (fits : p
     prefix = permutation_prefix p xs fits o;
     above = λ i c first last low high out.
         let k : suc (i - 1) ≡ i = omega arith in
-        let cut : member c (take (suc (i - 1)) xs) ≡ false = rw (k, ← take-take i p xs last) out in
+        let cut : member c (take (suc (i - 1)) xs) ≡ false = rw (k, ← take-take i p xs (omega arith)) out in
         rw (get_or-take p xs (i - 1) 0 (omega arith))
         (a (i - 1) c (omega arith) (after_cut xs (suc (i - 1)) c (cell_member o c (low, high)) cut));
   }

@@ -1,4 +1,5 @@
 -- `permutation::reasons::size_within` meets its contract: each test decides. Assumes nothing.
+use native.Mathlib.Omega.{arith}
 use Rattle.theory.proofs.Refusal.{size_small, size_large, size_done}
 use Rattle.permutation.proofs.reasons.size_within.Goals as goal
 
@@ -9,4 +10,4 @@ pub returns-then-n-gt20 : goal.returns-then-n-gt20
 returns-then-n-gt20 c = rw (← size_large _ c.if-n-gt20.true)
 
 pub returns : goal.returns
-returns c = rw (size_done _ c.if-n-lt2.false c.if-n-gt20.false)
+returns c = rw (size_done c.args.n (omega arith) (omega arith))

@@ -1,10 +1,9 @@
 -- `rewriting::raise::raise` meets its contract: the test decides between ceiling and the pushes. Assumes nothing.
 use mathlib.Core.Path.{ap, ◌∙◌}
 use mathlib.Core.List.{List, reverse}
-use Prim.Native.Nat.{ℕ, ◌+◌, ◌≤◌}
+use Prim.Native.Nat.{ℕ}
 use native.Mathlib.Omega.{arith}
 use lib.ListN.{take}
-use Rattle.theory.specs.Reasons.{max_level}
 use Rattle.theory.specs.Levels.{push_levels}
 use Rattle.theory.specs.Spent.{charge_of}
 use Rattle.theory.proofs.Refusal.{ceiling_refused, ceiling_done}
@@ -12,11 +11,6 @@ use Rattle.charge.specs.Answers.{done_pushes}
 use Rattle.charge.proofs.Numbers.{pushes_refused, pushes_done}
 use Rattle.rewriting.specs.Raising.{raised}
 use Rattle.rewriting.proofs.raise.raise.Goals as goal
-use Rattle.rewriting.proofs.raise.raise.Goals.{Else-top-r}
-
--- past the test, there is room, and then the pushes are made
-room : (c : Else-top-r) → c.highest-top.result + c.args.r ≤ max_level
-room c = omega (arith, c.if-top-r.false, c.highest-top.type_inv)
 
 pub returns-then-top-r : goal.returns-then-top-r
 unfolding raised
@@ -29,7 +23,7 @@ returns-then-top-r c =
 
 pub push_first-charge-requires : goal.push_first-charge-requires
 push_first-charge-requires c =
-    record { pushable = c.requires; top_is = c.highest-top.ensures; room = room (goal.at.push_first-charge-requires c).Else-top-r }
+    record { pushable = c.requires; top_is = c.highest-top.ensures; room = omega (arith, c.highest-top.type_inv) }
 
 pub overflow_cast-r : goal.overflow_cast-r
 overflow_cast-r c = omega (arith, c.requires.few)
@@ -41,5 +35,5 @@ returns c =
     let first = c.push_first-charge.ensures in
     let p = pushes_done a.r _ a.levels.now (push_levels (reverse (take a.r a.cells.now)) a.levels.now)
     (c.done_pushes.ensures ∙ ap (done_pushes a.r) first.charge_is)
-    (ceiling_done a.levels.now a.r (omega (arith, c.highest-top.ensures, room (goal.at.returns c).Else-top-r))) first.levels_left in
+    (ceiling_done a.levels.now a.r (omega (arith, c.highest-top.ensures, c.highest-top.type_inv))) first.levels_left in
     record { answer = p.0; levels_left = p.1 }
