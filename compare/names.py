@@ -1,5 +1,5 @@
 #!/usr/bin/env python3
-"""Checks that what README.md, docs/*.md and docs/map/*.md name exists; docs/landings/ and docs/PORT.md tell what was and are left out. What stands in back quotes must be one of
+"""Checks that what README.md, docs/*.md and docs/map/*.md name exists; docs/landings/, docs/PORT.md and docs/DESIGN-PASS.md tell what was and are left out. What stands in back quotes must be one of
 
 - a path, whole or its last parts: `docs/map/01.md`, `speed/run`; below `target/`, which is not kept, anything, and below the `out/` of a crate, which is not kept either, by the crate
 - `specs/F`, `proofs/F` of crates/theory; `crate: F` (its specs/), `crate: specs/F`, `crate: proofs/F`; after these `: name`, a definition or theorem of that file
@@ -17,7 +17,8 @@ from pathlib import Path
 
 ROOT = Path(__file__).resolve().parent.parent
 MAP = ROOT / "docs/map"
-DOCUMENTS = [ROOT / "README.md", *(path for path in sorted((ROOT / "docs").glob("*.md")) if path.name != "PORT.md"), *sorted(MAP.glob("*.md"))]
+WAS = {"PORT.md", "DESIGN-PASS.md"}
+DOCUMENTS = [ROOT / "README.md", *(path for path in sorted((ROOT / "docs").glob("*.md")) if path.name not in WAS), *sorted(MAP.glob("*.md"))]
 NOT_KEPT = {"target", "out", ".git", "__pycache__"}
 # What names nothing of this repository: words of Rattle, of its prover and its messages, of C and Rust, of the printed text, and placeholders.
 OTHERS = {*"""rt ensures requires pub axiom axioms if omega rw search close Result memcpy memmove memset rep .rt .antt old: i g s ns instructions
