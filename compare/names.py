@@ -3,7 +3,7 @@
 
 - a path, whole or its last parts: `docs/map/01.md`, `speed/run`; below `target/`, which is not kept, anything, and below the `out/` of a crate, which is not kept either, by the crate
 - `specs/F`, `proofs/F` of crates/theory; `crate: F` (its specs/), `crate: specs/F`, `crate: proofs/F`; after these `: name`, a definition or theorem of that file
-- `Record.field`; `crate::file`, `crate::file::item`; `tm_name`, `TM_NAME` of the header; `rt must-fail crate`
+- `Record.field`; `crate::file`, `crate::file::item`; `Type::item`, a function of a type's `impl` or a case of an enum; `tm_name`, `TM_NAME` of the header; `rt must-fail crate`
 - a word alone: a definition, theorem, field, function, clause of a contract, struct, constant, edit, crate or file name, wherever it stands; after the word "edit" an edit
 - in a list after one of these, joined by commas, "and", "or", "with": of the same file, folder or record, as in `specs/Run: steps`, `push_count`; `Demand3.gap`, `.jumps`
 
@@ -21,16 +21,18 @@ WAS = {"PORT.md", "DESIGN-PASS.md"}
 DOCUMENTS = [ROOT / "README.md", *(path for path in sorted((ROOT / "docs").glob("*.md")) if path.name not in WAS), *sorted(MAP.glob("*.md"))]
 NOT_KEPT = {"target", "out", ".git", "__pycache__"}
 # What names nothing of this repository: words of Rattle, of its prover and its messages, of C and Rust, of the printed text, and placeholders.
-OTHERS = {*"""rt ensures requires pub axiom axioms if omega rw search close Result memcpy memmove memset rep .rt .antt old: i g s ns instructions
+OTHERS = {*"""rt ensures requires pub axiom axioms if omega rw search close for while static impl Result Option Ok Err From TryFrom IfOk memcpy memmove memset rep .rt .antt old: i g s ns instructions
     logic-built libraries-built native= result levels.old levels.new levels.now r.number Record.field Invariants.antt Answers.antt
-    c.args.m c.args.d c.if-d-m.true c.if-d-m.false c.f.ensures c.loop-i.invariant f-b-requires loop-i-smaller returns-2""".split()}
+    c.args.m c.args.d c.in_ok-check.ensures c.in_err-check.ensures c.if-d-m.true c.if-d-m.false c.f.ensures c.loop-i.invariant f-b-requires loop-i-smaller returns-2""".split()}
 BLOCK = re.compile(r"^```(\w*)\n(.*?)^```$", re.M | re.S)
 LIST = re.compile(r"(,|,? and|,? or|,? with)?\s+")
 FILE = re.compile(r"(?:(\w+): )?(?:(specs|proofs)/)?([A-Z]\w*)(?:: (\S.*))?")
 RECORD = re.compile(r"(?:pub )?(?:record|data) ([^\s:(){}]+)")
 SIGNATURE = re.compile(r"(?:(?:pub|abbrev|unfoldable) )*([^\s:(){}=]+(?: [^\s:(){}=]+)*)(?: [({][^(){}]*[)}])* :(?:\s|$)")
-PRINTED = re.compile(r"fn \S+: proved$|logic=proved ")
-ITEM = re.compile(r"\b(?:fn|ensures|struct|enum|const) (\w+)")
+PRINTED = re.compile(r"(?:fn|impl) \S+: proved$|logic=proved ")
+ITEM = re.compile(r"\b(?:fn|ensures|struct|enum|const|static) (\w+)")
+TYPE = re.compile(r"^(?:pub )?(?:struct|enum) (\w+)[^{;]*\{(.*?)^\}|^impl (?:[^{]* for )?(\w+)[^{]*\{(.*?)^\}", re.M | re.S)
+CASE = re.compile(r"^    ([A-Z]\w*)", re.M)
 
 
 def declared(text):
@@ -66,7 +68,7 @@ class Repository:
         self.edits = {Path(path).stem for path in self.paths if path.endswith(".edit")}
         self.header = {*re.findall(r"\b(?:tm|TM)_\w+", (ROOT / "include/turretmedlar.h").read_text())}
         self.words = self.crates | self.edits | self.header
-        self.lines, self.names, self.members = set(), {}, {}
+        self.lines, self.names, self.members, self.types = set(), {}, {}, {}
         for path in self.paths:
             self.words |= {Path(path).name, Path(path).stem}
             if path.endswith((".rt", ".rs", ".antt", ".edit")):
@@ -81,6 +83,8 @@ class Repository:
         else:
             names = {*ITEM.findall(text)} if path.endswith((".rt", ".rs")) else set()
             self.words |= {*re.findall(r"^ +pub (\w+):", text, re.M)}
+            for one, fields, of, items in TYPE.findall(text) if path.endswith(".rt") else ():
+                self.types.setdefault(one or of, set()).update(CASE.findall(fields), ITEM.findall(items))
         self.names[path] = names
         self.words |= names
         self.lines |= {line.strip() for line in text.splitlines()}
@@ -138,6 +142,8 @@ class Reader:
         return missing and f"{path} declares no {missing[0]}"
 
     def item(self, crate, name, item):
+        if crate in HERE.types:
+            return name not in HERE.types[crate] and f"{crate} has no {name}"
         path = f"crates/{crate}/src/{name}.rt"
         if crate in HERE.kit:
             return
@@ -160,7 +166,7 @@ class Reader:
 
     def expression(self, text):
         for word in re.findall(r"(?:-L)?([\w.-]+(?:/[\w.-]+)+|\w+)", text):
-            if wrong := self.path(word) if "/" in word else re.search(r"._.|[a-z][A-Z]", word) and word not in HERE.words and "no such name":
+            if wrong := self.path(word) if "/" in word else re.search(r"._.|[a-z][A-Z]", word) and word not in HERE.words | OTHERS and "no such name":
                 return f"{word}: {wrong}"
 
 

@@ -96,11 +96,13 @@ def closing(text, start):
     return len(text)
 
 
-def parts(text, separator):
-    """The parts of a list or a product, at depth 0."""
+def parts(text, separator, types=False):
+    """The parts of a list or a product, at depth 0; in a list of types `<..>` holds together too, and the arrow of an `Fn` closes none."""
     depth, start = 0, 0
     for index, letter in enumerate(text):
         depth += (letter in "([{") - (letter in ")]}")
+        if types:
+            depth += (letter == "<") - (letter == ">" and text[index - 1] != "-")
         if letter == separator and not depth:
             yield text[start:index].strip()
             start = index + 1
@@ -121,7 +123,7 @@ def functions(text):
     for found in re.finditer(r"\bfn (\w+)(?=[<(])", text):
         start = behind_angles(text, found.end())
         end = closing(text, start)
-        parameters = [part for part in parts(re.sub(r"\s+", " ", text[start + 1 : end - 1]), ",") if part]
+        parameters = [part for part in parts(re.sub(r"\s+", " ", text[start + 1 : end - 1]), ",", True) if part]
         clauses = []
         result = re.match(r"\s*->\s*([^\n{]+)", text[end:])
         place = end + (result.end() if result else 0)
@@ -166,10 +168,10 @@ class Tree:
             if test(one):
                 self.add(point, kind, path, one.line, f"fn {one.name}")
 
-    def loops(self):
-        """Each `while`: its file, function, line, condition and body."""
+    def loops(self, word="while"):
+        """Each `while` (each `for`): its file, function, line, condition and body."""
         for path, one in self.functions:
-            for found in re.finditer(r"\bwhile ([^{]*)\{", one.body):
+            for found in re.finditer(rf"\b{word} ([^{{]*)\{{", one.body):
                 body = one.body[found.end() - 1 : closing(one.body, found.end() - 1)]
                 yield path, one, one.body_line + one.body.count("\n", 0, found.start()), found[1].strip(), body
 
@@ -190,7 +192,7 @@ def point1(tree):
         if ("number", "u8") in fields:
             tree.add(1, "struct with a number", path, line, name)
     tree.each(1, "answers a number", lambda one: one.result == "u8" and one.name not in BYTES | TRUTHS)
-    tree.each(1, "value for none", lambda one: one.name in NONE and "Option" not in one.result)
+    tree.each(1, "value for none", lambda one: one.name in NONE and not re.search(r"Option|Result", one.result))
     tree.each(1, "takes a number", lambda one: any(re.match(r"(?:(?:number|kind|job): u8|zero: (?:u8|u64))$", part) for part in one.parameters))
     tree.each(1, "truth as a number", lambda one: one.name in TRUTHS and one.result != "bool")
     tree.lines(1, "constant", r"^\s*(?:pub )?const (?!UNWRITTEN)[A-Z_]+: u8 = \d+;")
@@ -306,10 +308,11 @@ def point6(tree):
             tree.add(6, "row with a length", path, line, name)
         if len(rows) > 1:
             tree.add(6, "parallel rows", path, line, f"{name}: {', '.join(rows)}")
-    tree.lines(6, "fixed buffer", r"^\s*let mut \w+ = \[[^\]]*; ?\w+\];|\btype \w+ = \[")
-    for path, one, line, condition, body in tree.loops():
-        if re.search(r"\breturn\b", body) and not re.search(r"\breturn (refuse|Input)", body):
-            tree.add(6, "searched by hand", path, line, f"{one.name}: while {condition}")
+    tree.lines(6, "fixed buffer", r"^\s*let mut \w+ = \[[^\]]*; ?\w+\];|^\s*let mut \w+ = \[\w+ \{$|\(\[\w+; ?\w+\](?=, \[)|(?<=\], )\[\w+; ?\w+\]\);|\btype \w+ = \[")
+    for word, kind in ("while", "searched by hand"), ("for", "searched by a for"):
+        for path, one, line, condition, body in tree.loops(word):
+            if re.search(r"\breturn\b", body) and not re.search(r"\breturn (refuse|Input|Err\()", body):
+                tree.add(6, kind, path, line, f"{one.name}: {word} {condition}")
 
 
 def point7(tree):
@@ -335,7 +338,7 @@ def text_places(tree, kind, name, text, pattern, among=None):
 
 
 def number_again(tree):
-    tree.lines(1, "reads of a number", r"\.number\b")
+    tree.lines(1, "reads of a number", r"\.number\b(?!\()")
     tree.lines(1, "names of a reason", r"\b(SIZE|FIT|MUDDLE|TIE|VALUE|CEILING|IDLE|SHEET|PAPER|UNSURE)\b(?!: u8)")
     tree.lines(1, "refusals made", r"\b(refuse|no_permutation|no_pushes|no_symbol|no_prefix|none_reached|no_run|without_spots)\(")
 

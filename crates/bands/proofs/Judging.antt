@@ -2,15 +2,15 @@
 use mathlib.Core.Path.{◌≡◌, refl, sym}
 use mathlib.Core.Bool.{true, false, cond, and-eq-true_iff}
 use mathlib.Core.List.{List, [], ◌∷◌}
-use Prim.Native.Nat.{ℕ, zero, suc, ◌+◌, ◌-◌, ◌≤◌, ◌<◌}
+use Prim.Native.Nat.{ℕ, zero, suc, ◌-◌, ◌≤◌, ◌<◌}
 use native.Mathlib.Omega.{arith}
-use borrow.Author.Tests.{le-leb, lt-leb, leb-true, eq-eqb, ne_eqb, eqb-true}
+use borrow.Author.Tests.{le-leb, leb-true, eq-eqb, ne_eqb, eqb-true}
 use lib.Dec.{eqb, leb}
-use lib.ListN.{length, get_or, drop, drop_of_length-le}
+use lib.ListN.{length, get_or}
+use Rattle.std.specs.List.{list_all, zip}
 use Rattle.theory.specs.Reasons.{done, fit, value, sized}
 use Rattle.theory.specs.Refusal.{size_of}
 use Rattle.theory.proofs.Refusal.{or_else_done, or_else_only, tested, test_only, size_range, size_done}
-use Rattle.charge.proofs.Scanning.{ahead}
 use Rattle.bands.specs.Answers.{none_above, bands_number, Banded}
 
 -- ---- no lowest level is above its highest, level by level
@@ -30,19 +30,12 @@ each_none (a ∷ low) [] same h = refl
 each_none (a ∷ low) (b ∷ high) same h =
     rw (le-leb a b (h zero (omega arith))) (each_none low high (omega arith) (λ i l. h (suc i) (omega arith)))
 
--- one turn along the lists
-module _ (low high : List ℕ) (i : ℕ) (same : length high ≡ length low) (h : i < length low) where
-  pub none_not : get_or high i 0 < get_or low i 0 → none_above (drop i low) (drop i high) ≡ false
-  unfolding none_above
-  none_not l = rw (ahead low i h, ahead high i (omega arith), lt-leb (get_or low i 0) (get_or high i 0) l)
-
-  pub none_next : get_or low i 0 ≤ get_or high i 0 → none_above (drop i low) (drop i high) ≡ none_above (drop (i + 1) low) (drop (i + 1) high)
-  unfolding none_above
-  none_next l = rw (ahead low i h, ahead high i (omega arith), le-leb (get_or low i 0) (get_or high i 0) l)
-
-pub none_end : (low high : List ℕ) {i : ℕ} → length low ≤ i → none_above (drop i low) (drop i high) ≡ true
+-- said of the lists pair by pair
+pub none_pairs : (low high : List ℕ) → list_all (λ (p : ℕ × ℕ). leb p.0 p.1) (zip low high) ≡ none_above low high
 unfolding none_above
-none_end low high h = rw (drop_of_length-le low h)
+none_pairs [] high = refl
+none_pairs (a ∷ low) [] = refl
+none_pairs (a ∷ low) (b ∷ high) = rw (none_pairs low high)
 
 -- ---- the number
 

@@ -13,17 +13,14 @@ use Rattle.bands.specs.LeadTest.{lead_test, sure_test}
 use Rattle.bands.specs.Answers.{Banded}
 
 module _ {low high : List ℕ} (b : Banded low high) {cells : List ℕ} (e : cells ≡ row (permutation_of low)) where
-  pub row_testable : {p : ℕ} → p < length low → PrefixRow low cells p × (length high ≡ length low)
-  row_testable short = (
-    record {
-      few = b.few;
-      many = b.many;
-      long = row_long low b.many e;
-      permutation = rw (row_first low b.many e) (permutation_of_permutation low);
-      short = short;
-    },
-    b.bands.same,
-  )
+  pub row_testable : {p : ℕ} → p < length low → PrefixRow low cells p
+  row_testable short = record {
+    few = b.few;
+    many = b.many;
+    long = row_long low b.many e;
+    permutation = rw (row_first low b.many e) (permutation_of_permutation low);
+    short = short;
+  }
 
   pub row_tested : {k : ℕ} (p : ℕ) {t : Bool} → k ≡ p → t ≡ lead_test low high k (take (length low) cells) → t ≡ sure_test low high p
   row_tested p l h = h ∙ rw (row_first low b.many e, l)

@@ -1,12 +1,10 @@
 -- The test, from the bottom up: one turn of the way. Assumes nothing.
-use mathlib.Core.Path.{◌≡◌, ◌∙◌}
-use mathlib.Core.Bool.{true, false, ◌&&◌, and-eq-true_iff}
-use mathlib.Core.List.{List, [], ◌∷◌, map}
+use mathlib.Core.Path.{◌≡◌, sym, ◌∙◌}
+use mathlib.Core.Bool.{true, false}
+use mathlib.Core.List.{List, ◌∷◌, map}
 use Prim.Native.Nat.{ℕ, zero, suc, ◌-◌, ◌≤◌, ◌<◌, max}
 use native.Mathlib.Omega.{arith}
-use borrow.Author.Tests.{lt-ltb, ltb-true, leb-true, leb-false}
-use lib.Dec.{leb, ltb}
-use lib.ListN.{length, get_or, take, drop, drop_of_length-le, length-drop}
+use lib.ListN.{length, get_or, take, drop, length-drop}
 use lib.Seq.{drop-cons, get_or-take}
 use Rattle.theory.specs.Levels.{level, highest}
 use Rattle.theory.proofs.Cases.{by_test}
@@ -29,11 +27,6 @@ module _ {low cells : List ℕ} {p : ℕ} (t : PrefixRow low cells p) where
   short : p < length xs
   short = omega (arith, t.short, t.permutation.long)
 
-  pub found_none : {high : List ℕ} → Found low high xs p 0 (length low)
-  found_none =
-      let none : drop (length low) xs ≡ [] = drop_of_length-le xs {i = length low} (omega (arith, t.permutation.long)) in
-      record { within = omega arith; bound_is = rw none; above = λ j c h m. absurd (omega (arith, t.short)) }
-
   pub found_all : {high : List ℕ} {bound : ℕ} → Found low high xs p bound 0 → lead_test low high p xs ≡ true
   found_all {high} f = above_test low high p xs short (λ j c h m. f.above j c (omega arith) m)
 
@@ -54,25 +47,23 @@ module _ {low cells : List ℕ} {p : ℕ} (t : PrefixRow low cells p) where
     cell_bounds = rw x_is at (entry_inside t.permutation (i - 1) (omega (arith, f.within, t.permutation.long)))
 
     -- a cell of the first p whose lowest level is not above the bound
-    pub found_not : (ltb (i - 1) p && leb (level low x) bound) ≡ true → lead_test low high p xs ≡ false
-    found_not e =
-        let s = (and-eq-true_iff (ltb (i - 1) p) (leb (level low x) bound)).0 e in
-        let first : i - 1 < p = ltb-true (i - 1) p s.0 in
-        let low_is : level low x ≤ bound = leb-true (level low x) bound s.1 in
+    pub found_not : i - 1 < p → level low x ≤ bound → false ≡ lead_test low high p xs
+    found_not first low_is =
         by_test (lead_test low high p xs)
         (λ y.
         let below : highest (map (level high) (drop i xs)) < level low x =
         along_below high (level low x) (drop i xs) (omega (arith, length-drop i xs, short))
         (λ c m. rw x_is at (test_above low high p xs short y (i - 1) c first (rw up m))) in
         absurd (omega (arith, f.bound_is)))
-        (λ y. y)
+        sym
 
     -- or one that is not of the first p, or is above it
-    reached : (ltb (i - 1) p && leb (level low x) bound) ≡ false → Above low high (p - (i - 1)) (x ∷ drop i xs)
-    reached e zero c h m =
-        let reach : bound < level low x = leb-false (level low x) bound (rw (lt-ltb (i - 1) p (omega arith)) at e) in
-        omega (arith, reach, f.bound_is, along_highest high c (drop i xs) m)
-    reached e (suc j) c h m = f.above j c (omega arith) m
+    module _ (clear : i - 1 < p → bound < level low x) where
+      reached : Above low high (p - (i - 1)) (x ∷ drop i xs)
+      reached zero c h m =
+          let reach : bound < level low x = clear (omega arith) in
+          omega (arith, reach, f.bound_is, along_highest high c (drop i xs) m)
+      reached (suc j) c h m = f.above j c (omega arith) m
 
-    pub found_more : (ltb (i - 1) p && leb (level low x) bound) ≡ false → Found low high xs p (max (level high x) bound) (i - 1)
-    found_more e = record { within = omega (arith, f.within); bound_is = rw (parts, f.bound_is); above = rw parts (reached e) }
+      pub found_more : Found low high xs p (max (level high x) bound) (i - 1)
+      found_more = record { within = omega (arith, f.within); bound_is = rw (parts, f.bound_is); above = rw parts reached }

@@ -1,30 +1,25 @@
 // The permutation of bands.
 ghost use Rattle.std.specs.Prelude.{◌≡◌};
+ghost use Rattle.permutation.specs.Answers.{as_permuted};
 ghost use Rattle.bands.specs.Answers.{sure_answer, OrderExactly};
 
-use super::judge::{bands_number, lead_surely};
+use super::judge::LevelBands;
 use charge::sort::sort_cells;
-use permutation::answers::{Permutation, Permuted, no_permutation};
-use permutation::reasons::UNSURE;
+use permutation::answers::Permutation;
+use permutation::reasons::Refusal;
 
 // `exactly`: it is given when every choice of levels has no tie and this permutation, and only then.
-pub fn read_bands(lowest: &[u16], highest: &[u16]) -> Permuted
-    ensures answer { result ≡ sure_answer lowest.now highest.now }
-    ensures exactly { OrderExactly lowest.now highest.now result }
+pub fn read_bands(lowest: &[u16], highest: &[u16]) -> Result<Permutation, Refusal>
+    ensures answer { as_permuted result ≡ sure_answer lowest.now highest.now }
+    ensures exactly { OrderExactly lowest.now highest.now (as_permuted result) }
 {
-    let number = bands_number(lowest, highest);
-    if number != 0 {
-        return no_permutation(number);
-    }
+    let bands = LevelBands::new(lowest, highest)?;
     let n = lowest.len();
-    let mut cells = [0u8; 20];
+    let mut cells = [0; 20];
     sort_cells(lowest, &mut cells);
     // where all cells but one lead, the last has its place
-    if lead_surely(lowest, highest, &cells, n - 1) {
-        return Permuted {
-            number: 0,
-            permutation: Permutation { n, cells },
-        };
+    if !bands.lead_surely(&cells, n - 1) {
+        return Err(Refusal::Unsure);
     }
-    no_permutation(UNSURE)
+    Ok(Permutation { n, cells })
 }

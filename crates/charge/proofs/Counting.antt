@@ -4,6 +4,7 @@ use mathlib.Core.List.{List}
 use Prim.Native.Nat.{ℕ, suc, ◌+◌, ◌-◌, ◌≤◌, ◌<◌}
 use native.Mathlib.Omega.{arith}
 use lib.ListN.{length, get_or, take, set}
+use lib.Seq.{length-take-le}
 use Rattle.theory.specs.Permutation.{row, cell_at}
 use Rattle.theory.specs.Push.{push}
 use Rattle.theory.specs.Successor.{successor}
@@ -25,10 +26,14 @@ module _ {L cells : List ℕ} {top k : ℕ} (v : Ready L cells top k) where
   pub long : length cells ≡ 20
   long = row_long L v.many v.cells_are
 
-  -- it pushes at the place that is the successor of the row
-  module _ {place : ℕ} (e : place ≡ successor (length L) (take (length L) cells)) where
+  -- the names in the row are as many as the levels
+  pub names_long : length (take (length L) cells) ≡ length L
+  names_long = length-take-le (length L) cells (omega (arith, v.many, long))
+
+  -- it pushes at the place that is the successor of these names
+  module _ {place : ℕ} (e : place ≡ successor (length (take (length L) cells)) (take (length L) cells)) where
     place_is : place ≡ successor (length L) (permutation_of L)
-    place_is = e ∙ rw (row_first L v.many v.cells_are)
+    place_is = e ∙ rw (names_long, row_first L v.many v.cells_are)
 
     pub place_bounds : (2 ≤ place) × (place ≤ length L)
     place_bounds = rw place_is (successor_bounds (length L) (permutation_of L) v.few)

@@ -22,8 +22,7 @@ use Rattle.permutation.specs.declared.answers.Permutation.{Permutation}
 use Rattle.permutation.specs.declared.answers.Permuted.{Permuted}
 use Rattle.permutation.proofs.Answering.{permuted_with}
 use Rattle.charge.specs.declared.answers.Pushes.{Pushes}
-use Rattle.charge.specs.declared.judge.Call.{Call}
-use Rattle.charge.specs.Counting.{call_judged}
+use Rattle.charge.specs.Counting.{Call, call_judged}
 use Rattle.charge.specs.Answers.{no_pushes, done_pushes, pushes_of, read_answer, place_number, place_answer, place_levels, call_answer}
 use Rattle.charge.proofs.Sorting.{row_record}
 

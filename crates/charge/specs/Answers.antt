@@ -1,6 +1,6 @@
 -- What the public functions answer, and the levels that they leave, for all inputs. Count up leaves theory's `call_levels`.
 -- Assumes nothing.
-use Rattle.std.specs.Prelude.{cond, ◌&&◌, List, ℕ, leb, length}
+use Rattle.std.specs.Prelude.{cond, ◌&&◌, List, ℕ, leb, length, Result, Ok, Err}
 use Rattle.theory.specs.Reasons.{done, value}
 use Rattle.theory.specs.Permutation.{cell_at}
 use Rattle.theory.specs.Levels.{read_number, permutation_of, push_level, jump}
@@ -8,7 +8,10 @@ use Rattle.theory.specs.CountUp.{ceiling_of, call_number}
 use Rattle.theory.specs.Spent.{charge_of, count_up_pushes}
 use Rattle.theory.specs.Refusal.{given, or_else}
 use Rattle.permutation.specs.Answers.{permuted}
+use Rattle.permutation.specs.Refusals.{number_of}
+use Rattle.permutation.specs.declared.reasons.Refusal.{Refusal}
 use Rattle.permutation.specs.declared.answers.Permuted.{Permuted}
+use Rattle.charge.specs.declared.answers.Spent.{Spent}
 use Rattle.charge.specs.declared.answers.Pushes.{Pushes}
 
 -- a job that pushes: refused, "0 for every other number"; done, how many pushes, and the charge that they spent
@@ -17,6 +20,11 @@ no_pushes number = record { number = number; pushes = 0; charge = 0 }
 
 abbrev pub done_pushes : ℕ → ℕ → Pushes
 done_pushes k charge = record { number = 0; pushes = k; charge = charge }
+
+-- what a job gave, as C gets it
+abbrev pub as_pushes : Result Spent Refusal → Pushes
+as_pushes (Ok s) = done_pushes s.pushes s.charge
+as_pushes (Err e) = no_pushes (number_of e)
 
 -- the one or the other, by its number
 abbrev pub pushes_of : ℕ → ℕ → ℕ → Pushes

@@ -1,12 +1,21 @@
 -- What a count-up call is judged by, and what its steps start from and lead to. Only inner contracts cite these. Assumes nothing.
-use Rattle.std.specs.Prelude.{◌≡◌, false, List, ℕ, ◌+◌, ◌≤◌, length}
+use Rattle.std.specs.Prelude.{◌≡◌, false, List, ℕ, ◌+◌, ◌≤◌, length, Result}
 use Rattle.theory.specs.Reasons.{max_level}
 use Rattle.theory.specs.Permutation.{row}
 use Rattle.theory.specs.Levels.{highest, tied, permutation_of}
 use Rattle.theory.specs.CountUp.{count_up, call_number}
 use Rattle.theory.specs.Spent.{charge_of, count_up_pushes}
 use Rattle.theory.specs.Refusal.{given}
-use Rattle.charge.specs.declared.judge.Call.{Call}
+use Rattle.permutation.specs.Refusals.{number_in, given_in}
+use Rattle.permutation.specs.declared.reasons.Refusal.{Refusal}
+
+-- what a count-up call is judged by: its number and, where that is 0, the highest level
+pub record Call : Type 0 where
+  pub number : ℕ
+  pub top : ℕ
+
+abbrev pub as_call : Result ℕ Refusal → Call
+as_call r = record { number = number_in r; top = given_in 0 r }
 
 -- the number of a call with k, and the highest level beside a 0
 unfoldable pub call_judged : List ℕ → ℕ → Call

@@ -1,34 +1,39 @@
-// What a job that pushes on levels answers: a number first, 0 where it is done, how many pushes it did, and the charge that they spent.
+// What a job that pushes on levels gives, and how C gets it: a number first, 0 where the job is done.
 ghost use Rattle.std.specs.Prelude.{◌≡◌};
-ghost use Rattle.charge.specs.Answers.{no_pushes, done_pushes};
+ghost use Rattle.charge.specs.Answers.{as_pushes};
 
-#[repr(C)]
-#[derive(Clone, Copy)]
-pub struct Pushes {
-    pub number: u8,
+use permutation::reasons::{Refusal, number_in};
+
+// How many pushes were done, and what they spent.
+#[derive(Clone, Copy, Debug, PartialEq, Eq)]
+pub struct Spent {
     pub pushes: u32,
     // the jumps of these pushes, added up
     pub charge: u32,
 }
 
-// A refusal. For the jobs of other crates too.
-pub fn no_pushes(number: u8) -> Pushes
-    ensures { result ≡ no_pushes number }
-{
-    Pushes {
-        number,
-        pushes: 0,
-        charge: 0,
-    }
+// The same as C gets it.
+#[repr(C)]
+#[derive(Clone, Copy)]
+pub struct Pushes {
+    pub number: u8,
+    pub pushes: u32,
+    pub charge: u32,
 }
 
-// A job done. For the jobs of other crates too.
-pub fn done_pushes(pushes: u32, charge: u32) -> Pushes
-    ensures { result ≡ done_pushes pushes charge }
-{
-    Pushes {
-        number: 0,
-        pushes,
-        charge,
+impl From<Result<Spent, Refusal>> for Pushes {
+    ghost from_gives = { λ r a. a ≡ as_pushes r };
+
+    fn from(answer: Result<Spent, Refusal>) -> Pushes {
+        let number = number_in(&answer);
+        let spent = answer.unwrap_or(Spent {
+            pushes: 0,
+            charge: 0,
+        });
+        Pushes {
+            number,
+            pushes: spent.pushes,
+            charge: spent.charge,
+        }
     }
 }

@@ -12,8 +12,7 @@ use Rattle.sheet.specs.declared.held.Groups.{Groups}
 use Rattle.sheet.specs.declared.held.Entry.{Entry}
 use Rattle.encoding.specs.Faults.{action_number, entry_number}
 use Rattle.sheet.specs.Putting.{Puts}
-use Rattle.encoding.specs.Lays.{Lays}
-use Rattle.encoding.specs.declared.laid.Laid.{Laid}
+use Rattle.encoding.specs.Lays.{Laid, Lays}
 use Rattle.sheet.proofs.Putting.{puts_then}
 use Rattle.encoding.proofs.ByTests.{entry_named}
 

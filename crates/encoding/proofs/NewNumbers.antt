@@ -11,8 +11,7 @@ use Rattle.theory.specs.Lists.{member, names_from, Every}
 use Rattle.theory.proofs.Cases.{by_test, by_name}
 use Rattle.ranking.specs.declared.zero.Zero.{Zero}
 use Rattle.ranking.specs.declared.zero.Zero.TheVariants.{Old, New}
-use Rattle.sheet.specs.ZeroSection.{on_zero, rising, zero_among, zeros_of}
-use Rattle.sheet.specs.declared.held.GroupZero.{GroupZero}
+use Rattle.sheet.specs.ZeroSection.{rising, zero_among, zeros_of}
 use Rattle.sheet.proofs.ZeroSection.{among_same}
 use Rattle.encoding.specs.SheetBytes.{number_on_new, numbers_on_new}
 
@@ -50,24 +49,24 @@ by_zero : (P : Zero → Type 0) → P Old → P New → (w : Zero) → P w
 by_zero P old new Old = old
 by_zero P old new New = new
 
-pub numbers_rise : (G low a : ℕ) (zs : List GroupZero) → low ≤ a → a + length zs ≡ G → rising G low (numbers_on_new a zs) ≡ true
+pub numbers_rise : (G low a : ℕ) (zs : List Zero) → low ≤ a → a + length zs ≡ G → rising G low (numbers_on_new a zs) ≡ true
 unfolding rising numbers_on_new number_on_new
 numbers_rise G low a [] h e = refl
 numbers_rise G low a (z ∷ zs) h e =
     by_zero (λ w. rising G low (number_on_new a w ++ numbers_on_new (suc a) zs) ≡ true)
     (numbers_rise G low (suc a) zs (omega arith) (omega arith))
     (rw (le-leb low a h, lt-ltb a G (omega arith), numbers_rise G (suc a) (suc a) zs (omega arith) (omega arith)))
-    z.zero
+    z
 
-pub numbers_few : (a : ℕ) (zs : List GroupZero) → length (numbers_on_new a zs) ≤ length zs
+pub numbers_few : (a : ℕ) (zs : List Zero) → length (numbers_on_new a zs) ≤ length zs
 unfolding numbers_on_new number_on_new
 numbers_few a [] = omega arith
 numbers_few a (z ∷ zs) =
     let rest = numbers_few (suc a) zs in
-    by_zero (λ w. length (number_on_new a w ++ numbers_on_new (suc a) zs) ≤ suc (length zs)) (omega arith) (omega arith) z.zero
+    by_zero (λ w. length (number_on_new a w ++ numbers_on_new (suc a) zs) ≤ suc (length zs)) (omega arith) (omega arith) z
 
 -- they tell the zeros
-among_back : (a : ℕ) (zs : List GroupZero) → map (zero_among (numbers_on_new a zs)) (names_from a (length zs)) ≡ zs
+among_back : (a : ℕ) (zs : List Zero) → map (zero_among (numbers_on_new a zs)) (names_from a (length zs)) ≡ zs
 unfolding numbers_on_new number_on_new
 among_back a [] = refl
 among_back a (z ∷ zs) =
@@ -75,12 +74,12 @@ among_back a (z ∷ zs) =
     let G = suc a + length zs in
     let above = not_below G (suc a) ns (numbers_rise G (suc a) (suc a) zs (omega arith) refl) a (omega arith) in
     let rest = among_back (suc a) zs in
-    by_zero (λ w. map (zero_among (number_on_new a w ++ ns)) (names_from a (suc (length zs))) ≡ on_zero w ∷ zs)
+    by_zero (λ w. map (zero_among (number_on_new a w ++ ns)) (names_from a (suc (length zs))) ≡ w ∷ zs)
     (rw (above, rest))
     (rw (eq-eqb a a refl, among_later a ns (suc a) (length zs) (omega arith), rest))
-    z.zero
+    z
 
-pub zeros_back : (G : ℕ) (zs : List GroupZero) → length zs ≡ G → zeros_of G (numbers_on_new 0 zs) ≡ zs
+pub zeros_back : (G : ℕ) (zs : List Zero) → length zs ≡ G → zeros_of G (numbers_on_new 0 zs) ≡ zs
 unfolding zeros_of
 zeros_back G zs long = ap (λ (n : ℕ). map (zero_among (numbers_on_new 0 zs)) (names_from 0 n)) (sym long) ∙ among_back 0 zs
 

@@ -2,10 +2,10 @@
 use mathlib.Core.Path.{◌≡◌, refl, ap}
 use mathlib.Core.List.{List, [], ◌∷◌, ◌++◌, append_assoc, flat_map}
 use Prim.Native.Nat.{ℕ, zero, suc, ◌+◌, ◌*◌, ◌/◌, ◌%◌, ◌^◌, ◌<◌}
-use native.Mathlib.Nat.{pow-suc, pow-zero, mul-zero, mul-suc, div-add-mod, div-lt_iff_lt-mul}
+use native.Mathlib.Nat.{pow-suc, pow-zero, mul-zero, mul-suc, div-add-mod, mod-eq_of_lt, div-lt_iff_lt-mul}
 use native.Mathlib.Omega.{arith}
 use lib.Dec.{lit<}
-use lib.ListN.{length, length-append}
+use lib.ListN.{length, get_or, length-append}
 use Rattle.sheet.specs.Bytes.{little, bytes_of}
 use Rattle.sheet.specs.Typed.{Bits}
 
@@ -42,3 +42,12 @@ little_bytes (b ∷ xs) h =
     let low : (b + 256 * little xs) % 256 ≡ b = omega arith in
     let high : (b + 256 * little xs) / 256 ≡ little xs = omega arith in
     rw (low, high, little_bytes xs h.1)
+
+-- names of a byte each are their own bytes
+pub bytes_names : (xs : List ℕ) → ((i : ℕ) → i < length xs → get_or xs i 0 < 256) → flat_map (bytes_of 1) xs ≡ xs
+unfolding bytes_of flat_map
+bytes_names [] small = refl
+bytes_names (x ∷ xs) small =
+    let first : x % 256 ≡ x = mod-eq_of_lt (small 0 (omega arith)) in
+    let rest = bytes_names xs (λ i h. small (suc i) (omega arith)) in
+    rw (first, rest)

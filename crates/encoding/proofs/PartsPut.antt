@@ -8,8 +8,7 @@ use lib.Seq.{drop-cons}
 use Rattle.theory.proofs.Refusal.{or_else_refused}
 use Rattle.encoding.specs.Faults.{first}
 use Rattle.sheet.specs.Putting.{Puts}
-use Rattle.encoding.specs.Lays.{Lays}
-use Rattle.encoding.specs.declared.laid.Laid.{Laid}
+use Rattle.encoding.specs.Lays.{Laid, Lays}
 use Rattle.sheet.proofs.Putting.{Row, row_start, row_next, row_end}
 use Rattle.encoding.proofs.Pieces.{flat_map_grows}
 

@@ -23,7 +23,7 @@ use Rattle.sheet.specs.declared.held.Action.{Action}
 use Rattle.sheet.specs.declared.held.Action.TheVariants.{Count, Rewrite, Store, ChangeZero}
 use Rattle.sheet.specs.declared.held.Group.{Group}
 use Rattle.sheet.specs.declared.held.Groups.{Groups}
-use Rattle.sheet.specs.declared.held.GroupZero.{GroupZero}
+use Rattle.ranking.specs.declared.zero.Zero.{Zero}
 use Rattle.sheet.specs.declared.held.Entry.{Entry}
 use Rattle.sheet.specs.declared.held.Sheet.{Sheet}
 use Rattle.sheet.proofs.Typed.{groups_there, entries_there}
@@ -170,7 +170,7 @@ module _ (h : Sheet) (typed : SheetTyped h) (fits : CountsFit h) where
   abbrev front : List ℕ
   front = bytes_of 1 gs.count ++ flat_map group_bytes ls
 
-  abbrev zs : List GroupZero
+  abbrev zs : List Zero
   zs = take gs.count h.zeros
 
   abbrev middle : List ℕ
@@ -191,7 +191,7 @@ module _ (h : Sheet) (typed : SheetTyped h) (fits : CountsFit h) where
       let here : front ++ back ≡ (front ++ middle) ++ last = sym (append_assoc front middle last) in
       section_reads G (numbers_on_new 0 zs) (front ++ back) (front ++ middle) here (numbers_rise G 0 0 zs (omega arith) (omega arith))
       (omega (arith, numbers_few 0 zs)) (omega (arith, t.few))
-      ∙ ap (λ (l : List GroupZero). got l (length (front ++ back))) (zeros_back G zs long)
+      ∙ ap (λ (l : List Zero). got l (length (front ++ back))) (zeros_back G zs long)
 
   commands_judged : GroupsTaken gs → Verdict (commands (groups_in gs) (front ++ back) (length front)) (commands_number h) (said h) (length (front ++ back))
   unfolding commands command_row commands_number said after check

@@ -11,7 +11,7 @@ use Rattle.theory.proofs.Padding.{padded_map_at}
 use Rattle.permutation.specs.Records.{list_of, record_of, all_zero}
 use Rattle.permutation.specs.declared.answers.Permutation.{Permutation}
 use Rattle.permutation.proofs.Records.{record_back}
-use Rattle.sheet.specs.ZeroSection.{on_old}
+use Rattle.ranking.specs.declared.zero.Zero.TheVariants.{Old}
 use Rattle.sheet.specs.Held.{no_entry, no_group, group_of, groups_of, held_of, levels_of, groups_in}
 use Rattle.sheet.specs.Typed.{EntryTyped, SheetTyped}
 use Rattle.sheet.specs.declared.held.Group.{Group}
@@ -72,7 +72,7 @@ module _ (h : Sheet) (typed : SheetTyped h) (none : sheet_number h ≡ 0) where
         groups = length-map (take gs.count gs.list) levels_of ∙ groups_there gs typed.groups_long t.few;
         sizes = λ g below. ap (λ (x : Group). x.n) (group_said g below) ∙ levels_long gs typed.groups_long t typed.groups g below;
         levels = λ g below. ap levels_of (group_said g below) ∙ group_levels _;
-        zeros = λ g below. get_or-append (take gs.count h.zeros) _ on_old g (omega (arith, zeros_there)) ∙ get_or-take gs.count h.zeros g on_old below;
+        zeros = λ g below. get_or-append (take gs.count h.zeros) _ Old g (omega (arith, zeros_there)) ∙ get_or-take gs.count h.zeros g Old below;
         count = length-map (take h.count h.entries) entry_said ∙ counted;
         commands = λ i more. ap (λ (e : Entry). e.command) (said_at i more);
         targets = λ i more has. ap (λ (e : Entry). e.target) (said_at i more) ∙ target_said i more has;

@@ -11,21 +11,20 @@ use Rattle.ranking.specs.declared.zero.Zero.{Zero}
 use Rattle.ranking.specs.declared.zero.Zero.TheVariants.{Old, New}
 use Rattle.sheet.specs.Bytes.{bytes_of}
 use Rattle.sheet.specs.Putting.{Puts}
-use Rattle.sheet.specs.declared.held.GroupZero.{GroupZero}
 use Rattle.sheet.proofs.Putting.{Grows, grows}
 use Rattle.encoding.specs.SheetBytes.{number_on_new, numbers_on_new, section_bytes}
 use Rattle.encoding.proofs.Numbers.{flat_map_length, flat_map_append}
 
 -- the bytes of the numbers of zeros in a row
-abbrev pub numbers_bytes : List GroupZero → List ℕ
+abbrev pub numbers_bytes : List Zero → List ℕ
 numbers_bytes zs = flat_map (bytes_of 1) (numbers_on_new 0 zs)
 
-pub numbers_grow : Grows numbers_bytes (λ g z. flat_map (bytes_of 1) (number_on_new (g + 0) z.zero))
+pub numbers_grow : Grows numbers_bytes (λ g z. flat_map (bytes_of 1) (number_on_new (g + 0) z))
 unfolding numbers_on_new flat_map
 numbers_grow =
-    grows (λ g z. flat_map (bytes_of 1) (number_on_new g z.zero)) (λ g zs. flat_map (bytes_of 1) (numbers_on_new g zs))
+    grows (λ g z. flat_map (bytes_of 1) (number_on_new g z)) (λ g zs. flat_map (bytes_of 1) (numbers_on_new g zs))
     (λ g. refl)
-    (λ g z zs. flat_map_append (bytes_of 1) (number_on_new g z.zero) (numbers_on_new (suc g) zs))
+    (λ g z zs. flat_map_append (bytes_of 1) (number_on_new g z) (numbers_on_new (suc g) zs))
     0
 
 -- one byte, or none

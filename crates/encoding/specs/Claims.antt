@@ -3,7 +3,7 @@
 use Rattle.std.specs.Prelude.{◌≡◌, true, List, ℕ, ◌^◌, ◌≤◌, ◌<◌, length, get_or, take}
 use Rattle.theory.specs.Lists.{Every}
 use Rattle.sheet.specs.Bytes.{Fault, number_of, fault, got}
-use Rattle.sheet.specs.ZeroSection.{on_old}
+use Rattle.ranking.specs.declared.zero.Zero.TheVariants.{Old}
 use Rattle.sheet.specs.Sheet.{Contents, sheet}
 use Rattle.sheet.specs.Held.{no_group, no_entry, held_of, levels_of}
 use Rattle.sheet.specs.Claims.{longest_sheet, example_sheet, example_contents}
@@ -20,7 +20,7 @@ pub record Same (h k : Sheet) : Type 0 where
   pub groups : k.groups.count ≡ h.groups.count
   pub sizes : (g : ℕ) → g < h.groups.count → (get_or k.groups.list g no_group).n ≡ (get_or h.groups.list g no_group).n
   pub levels : (g : ℕ) → g < h.groups.count → levels_of (get_or k.groups.list g no_group) ≡ levels_of (get_or h.groups.list g no_group)
-  pub zeros : (g : ℕ) → g < h.groups.count → get_or k.zeros g on_old ≡ get_or h.zeros g on_old
+  pub zeros : (g : ℕ) → g < h.groups.count → get_or k.zeros g Old ≡ get_or h.zeros g Old
   pub count : k.count ≡ h.count
   pub commands : (i : ℕ) → i < h.count → (get_or k.entries i no_entry).command ≡ (get_or h.entries i no_entry).command
   pub targets : (i : ℕ) → i < h.count → targeted (get_or h.entries i no_entry).command.action ≡ true

@@ -9,7 +9,6 @@ use Rattle.sheet.specs.Held.{levels_of, contents_of}
 use Rattle.sheet.specs.declared.held.Action.{Action}
 use Rattle.sheet.specs.declared.held.Group.{Group}
 use Rattle.sheet.specs.declared.held.Groups.{Groups}
-use Rattle.sheet.specs.declared.held.GroupZero.{GroupZero}
 use Rattle.sheet.specs.declared.held.Entry.{Entry}
 use Rattle.sheet.specs.declared.held.Sheet.{Sheet}
 use Rattle.encoding.specs.CommandKinds.{kind_of, body_bytes}
@@ -42,9 +41,9 @@ number_on_new g Old = []
 number_on_new g New = g ∷ []
 
 -- "the numbers of the groups on the new zero", of zeros in a row, the first of which is that of group g
-unfoldable pub numbers_on_new : ℕ → List GroupZero → List ℕ
+unfoldable pub numbers_on_new : ℕ → List Zero → List ℕ
 numbers_on_new g [] = []
-numbers_on_new g (z ∷ zs) = number_on_new g z.zero ++ numbers_on_new (suc g) zs
+numbers_on_new g (z ∷ zs) = number_on_new g z ++ numbers_on_new (suc g) zs
 
 -- "a count in one byte, [..] then the numbers"; "the writer writes the section when a group is on the new zero"
 unfoldable pub section_bytes : List ℕ → List ℕ

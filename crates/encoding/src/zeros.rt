@@ -7,7 +7,6 @@ ghost use Rattle.encoding.specs.SheetBytes.{number_on_new, numbers_on_new, secti
 
 use super::little::put_little;
 use ranking::zero::Zero;
-use sheet::held::GroupZero;
 
 // The number of a group on the new zero, and nothing of one on the old.
 fn put_number(out: &mut [u8], at: usize, g: usize, zero: Zero) -> usize
@@ -22,19 +21,15 @@ fn put_number(out: &mut [u8], at: usize, g: usize, zero: Zero) -> usize
 
 // The section of the first `total` zeros, or nothing where none is new. The numbers are put behind the place of their count, which is known after them. For
 // `writer`, which has the room.
-pub fn put_zeros(out: &mut [u8], at: usize, zeros: [GroupZero; 64], total: usize) -> usize
+pub fn put_zeros(out: &mut [u8], at: usize, zeros: [Zero; 64], total: usize) -> usize
     requires { (at + 65 ≤ length out.old) × (total ≤ 64) }
     ensures puts { Puts out.old at out.new result (section_bytes (numbers_on_new 0 (take total zeros))) }
     ensures short { result ≤ at + 65 }
 {
     let first = at + 1;
     let mut end = first;
-    let mut g: usize = 0;
-    while g < total {
-        let held = zeros[g];
-        let zero = held.zero;
-        end = put_number(out, end, g, zero);
-        g += 1;
+    for (g, zero) in zeros[..total].iter().enumerate() {
+        end = put_number(out, end, g, *zero);
     }
     if end == first {
         return at;

@@ -1,4 +1,5 @@
-// Bytes and numbers put into a buffer at a place. Each function answers the place after what it put.
+// Bytes and numbers put into a buffer at a place. Each function answers the place after what it put. The whole buffer is passed beside the
+// place, since `Puts` tells of both.
 ghost use Rattle.std.specs.Prelude.{◌+◌, ◌≤◌, ◌<◌, [], ◌∷◌, length};
 ghost use Rattle.layout.specs.Text as meaning;
 ghost use Rattle.sheet.specs.Putting.{Puts};

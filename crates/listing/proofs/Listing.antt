@@ -1,15 +1,15 @@
 -- LentLists that are long enough, zeros as numbers, and what is answered for them. Assumes nothing.
-use mathlib.Core.Path.{◌≡◌, refl, sym, ◌∙◌}
+use mathlib.Core.Path.{◌≡◌, ◌∙◌}
 use mathlib.Core.Bool.{Bool, true, false, ◌&&◌, and-eq-true_iff}
 use mathlib.Core.List.{List}
-use Prim.Native.Nat.{ℕ, ◌+◌, ◌*◌, ◌/◌, ◌≤◌, ◌<◌}
+use Prim.Native.Nat.{ℕ, ◌+◌, ◌*◌, ◌≤◌, ◌<◌}
 use native.Mathlib.Numerals.{add-one}
 use native.Mathlib.Omega.{arith}
-use borrow.Author.Tests.{leb-true, le-leb, lt-leb, ne_eqb}
+use borrow.Author.Tests.{leb-true, ne_eqb}
 use lib.Dec.{leb}
 use lib.ListN.{length, get_or, take, drop, drop_of_length-le}
 use lib.Seq.{drop-cons}
-use Rattle.theory.proofs.Cases.{by_test, by_le}
+use Rattle.theory.proofs.Cases.{by_test}
 use Rattle.theory.proofs.Refusal.{or_else_refused}
 use Rattle.ranking.specs.Zeros.{zero_number}
 use Rattle.sheet.specs.declared.held.Sheet.{Sheet}
@@ -18,13 +18,6 @@ use Rattle.writer.specs.Answers.{write_answer, written_on}
 use Rattle.writer.specs.RoundTrips.{RoundTrips}
 use Rattle.listing.specs.LentLists.{LentLists, long_enough, held_in, lists_number, lists_answer, lists_on}
 use Rattle.writer.specs.declared.answers.Written.{Written}
-
--- as it is tested: a quotient, and no product
-pub quotient_test : (a b : ℕ) → leb a (b / 20) ≡ leb (20 * a) b
-quotient_test a b =
-    by_le a (b / 20)
-    (λ h. le-leb a (b / 20) h ∙ sym (le-leb (20 * a) b (omega arith)))
-    (λ h. lt-leb a (b / 20) h ∙ sym (lt-leb (20 * a) b (omega arith)))
 
 pub record Listed (sizes levels zeros kinds groups numbers names : ℕ) : Type 0 where
   pub levels_there : 20 * sizes ≤ levels
@@ -53,9 +46,6 @@ listed_so sizes levels zeros kinds groups numbers names h =
 -- none of the first i is refused
 pub record ZerosJudged (xs : List ℕ) (i : ℕ) : Type 0 where
   pub left : first zero_number xs ≡ first zero_number (drop i xs)
-
-pub judged_none : (xs : List ℕ) → ZerosJudged xs 0
-judged_none xs = record { left = refl }
 
 module _ {xs : List ℕ} {i : ℕ} (v : ZerosJudged xs i) where
   module _ (more : i < length xs) where

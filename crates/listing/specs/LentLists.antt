@@ -5,13 +5,13 @@ use Rattle.theory.specs.Reasons.{done, fit}
 use Rattle.theory.specs.Refusal.{given, or_else}
 use Rattle.theory.specs.Lists.{names_from, padded}
 use Rattle.ranking.specs.Zeros.{zero_number, numbered_zero}
-use Rattle.sheet.specs.ZeroSection.{on_zero, on_old}
+use Rattle.ranking.specs.declared.zero.Zero.{Zero}
+use Rattle.ranking.specs.declared.zero.Zero.TheVariants.{Old}
 use Rattle.sheet.specs.Held.{no_group, no_entry}
 use Rattle.sheet.specs.declared.held.Action.{Action}
 use Rattle.sheet.specs.declared.held.Action.TheVariants.{Count, Rewrite, Store, ChangeZero}
 use Rattle.sheet.specs.declared.held.Command.{Command}
 use Rattle.sheet.specs.declared.held.Group.{Group}
-use Rattle.sheet.specs.declared.held.GroupZero.{GroupZero}
 use Rattle.sheet.specs.declared.held.Entry.{Entry}
 use Rattle.sheet.specs.declared.held.Sheet.{Sheet}
 use Rattle.encoding.specs.Faults.{first}
@@ -40,8 +40,8 @@ abbrev pub group_at : List ℕ → List ℕ → ℕ → Group
 group_at sizes levels i = record { n = get_or sizes i 0; levels = row_at 20 i levels }
 
 -- its zero, given as a number
-abbrev pub zero_in : List ℕ → ℕ → GroupZero
-zero_in zeros i = on_zero (numbered_zero (get_or zeros i 0))
+abbrev pub zero_in : List ℕ → ℕ → Zero
+zero_in zeros i = numbered_zero (get_or zeros i 0)
 
 abbrev command_on : ℕ → Action → Command
 command_on g action = record { group = g; action = action }
@@ -82,7 +82,7 @@ row_of room z f count = padded room z (map f (names_from 0 (within room count)))
 unfoldable pub held_in : LentLists → Sheet
 held_in l = record {
   groups = record { count = length l.sizes; list = row_of 64 no_group (group_at l.sizes l.levels) (length l.sizes) };
-  zeros = row_of 64 on_old (zero_in l.zeros) (length l.sizes);
+  zeros = row_of 64 Old (zero_in l.zeros) (length l.sizes);
   count = length l.kinds;
   entries = row_of 1000 no_entry (entry_at l.kinds l.groups l.numbers l.names) (length l.kinds);
 }

@@ -1,11 +1,17 @@
 -- What the job answers, and the lent list that it leaves, for all inputs. Assumes nothing.
-use Rattle.std.specs.Prelude.{◌≡◌, cond, ◌&&◌, List, ℕ, ◌*◌, eqb, length}
+use Rattle.std.specs.Prelude.{◌≡◌, cond, ◌&&◌, List, ℕ, ◌*◌, eqb, length, Result}
 use Rattle.theory.specs.Reasons.{done, size, fit, muddle}
 use Rattle.theory.specs.Refusal.{given, or_else}
 use Rattle.multicell.specs.Arrangement.{used_each, in_range}
 use Rattle.multicell.specs.Cost.{cost_of, raised_levels}
 use Rattle.multicell.specs.Claims.{LeastRaise}
+use Rattle.permutation.specs.Refusals.{number_in, given_in}
+use Rattle.permutation.specs.declared.reasons.Refusal.{Refusal}
 use Rattle.multicell.specs.declared.answers.Rearranged.{Rearranged}
+
+-- the job's cost as C gets it: a number, and 0 where that is not 0
+abbrev pub as_rearranged : Result ℕ Refusal → Rearranged
+as_rearranged r = record { number = number_in r; cost = given_in 0 r }
 
 -- "Sizes outside the ranges are size"
 abbrev pub rearrange_size : ℕ → ℕ → ℕ

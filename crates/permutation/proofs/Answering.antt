@@ -1,19 +1,21 @@
 -- What each way out of a job answers. Assumes nothing.
 use mathlib.Core.Path.{◌≡◌, sym, ap, ap₂, ◌∙◌}
 use mathlib.Core.List.{List, []}
-use mathlib.Core.Logic.{◌⊎◌, ⊎_elim}
-use Prim.Native.Nat.{ℕ, ◌≤◌, ◌<◌}
+use mathlib.Core.Bool.{cond, ◌&&◌}
+use Prim.Native.Nat.{ℕ, ◌≤◌}
 use native.Mathlib.Omega.{arith}
 use borrow.Author.Tests.{le-leb, lt-leb}
+use lib.Dec.{leb}
 use lib.ListN.{length}
-use Rattle.theory.specs.Reasons.{value}
+use Rattle.theory.specs.Reasons.{done, value}
 use Rattle.theory.specs.Permutation.{IsPermutation}
 use Rattle.theory.specs.Push.{push}
+use Rattle.theory.proofs.Cases.{by_le}
 use Rattle.theory.proofs.Refusal.{refused, answered, or_else_refused}
 use Rattle.theory.proofs.Padding.{padding}
 use Rattle.theory.proofs.Stepping.{push_permutation}
 use Rattle.permutation.specs.Records.{list_of, record_of, record_number}
-use Rattle.permutation.specs.Answers.{no_permutation, placed_if, push_number, push_answer, successor_answer}
+use Rattle.permutation.specs.Answers.{placed_if, push_number, push_answer, successor_answer}
 use Rattle.permutation.specs.declared.answers.Permutation.{Permutation}
 use Rattle.permutation.specs.declared.answers.Permuted.{Permuted}
 use Rattle.permutation.proofs.Records.{Sound, fault_record}
@@ -25,15 +27,16 @@ permuted_with number xs = record { number = number; permutation = record_of xs }
 
 -- ---- push
 module _ (p : Permutation) (i : ℕ) where
-  pub push_fault : {k : ℕ} → k ≡ record_number p → (k ≡ 0 → ⊥) → no_permutation k ≡ push_answer p i
+  pub push_fault : {k : ℕ} → k ≡ record_number p → (k ≡ 0 → ⊥) → permuted_with k [] ≡ push_answer p i
   unfolding push_answer push_number
   push_fault e h = refused permuted_with (push i (list_of p)) [] (or_else_refused (record_number p) _ e h) h
 
-  pub push_outside : record_number p ≡ 0 → (i < 2) ⊎ ((2 ≤ i) × (p.n < i)) → no_permutation value ≡ push_answer p i
+  pub push_outside : record_number p ≡ 0 → (2 ≤ i → i ≤ p.n → ⊥) → permuted_with value [] ≡ push_answer p i
   unfolding push_answer push_number
   push_outside e h =
-      refused permuted_with (push i (list_of p)) []
-      (rw e (⊎_elim (λ l. rw (lt-leb 2 i l)) (λ l. rw (le-leb 2 i l.0, lt-leb i p.n l.1)) h)) (λ z. omega arith)
+      let out : value ≡ cond (leb 2 i && leb i p.n) done value =
+      by_le 2 i (λ l. by_le i p.n (λ m. absurd (h l m)) (λ m. rw (le-leb 2 i l, lt-leb i p.n m))) (λ l. rw (lt-leb 2 i l)) in
+      refused permuted_with (push i (list_of p)) [] (rw e out) (λ z. omega arith)
 
   pub push_done : (cells : List ℕ) → Sound p → 2 ≤ i → i ≤ p.n → cells ≡ push i p.cells
       → ◌≡◌ {A = Permuted} (record { number = 0; permutation = record { n = p.n; cells = cells } }) (push_answer p i)

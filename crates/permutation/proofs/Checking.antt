@@ -1,27 +1,44 @@
 -- The check of a record: what its ways out answer, and what its callers have of it. Assumes nothing.
 use mathlib.Core.Path.{◌≡◌, sym, ap, ◌∙◌}
 use mathlib.Core.Bool.{true, and-true}
+use mathlib.Core.List.{List}
 use Prim.Native.Nat.{ℕ}
+use borrow.Author.Tests.{ne_eqb}
+use native.Mathlib.Omega.{arith}
 use lib.ListN.{length, take, drop, replicate}
-use Rattle.theory.specs.Refusal.{size_of}
-use Rattle.theory.proofs.Refusal.{refused}
+use lib.Seq.{length-take-le}
+use Rattle.theory.specs.Refusal.{size_of, given}
+use Rattle.theory.proofs.Refusal.{refused, given_refused, size_range}
 use Rattle.permutation.specs.Records.{list_of, once_each, all_zero, record_number}
-use Rattle.permutation.specs.Spots.{spot_row, without_spots, spotted, checked, HasSpots}
+use Rattle.permutation.specs.Spots.{spot_row, leaving, spotted, checked, Checked, HasSpots}
 use Rattle.permutation.specs.declared.answers.Permutation.{Permutation}
-use Rattle.permutation.specs.declared.validity.Checked.{Checked}
 use Rattle.permutation.proofs.Records.{Sound, sound}
 use Rattle.permutation.proofs.Spots.{row_has_spots}
 
+abbrev with_spots : ℕ → List ℕ → Checked
+with_spots number spots = record { number = number; spots = spots }
+
+-- beside a refusal it does not matter what the spots are
+pub refused_alike : {number : ℕ} (spots other : List ℕ) → (number ≡ 0 → ⊥) → leaving number spots ≡ leaving number other
+refused_alike {number} spots other ne = rw (ne_eqb number 0 ne)
+
 -- ---- its ways out
 module _ (p : Permutation) where
-  pub check_refused : {number : ℕ} → number ≡ record_number p → (number ≡ 0 → ⊥) → without_spots number ≡ checked p
+  pub check_refused : {number : ℕ} (spots : List ℕ) → number ≡ record_number p → (number ≡ 0 → ⊥) → leaving number spots ≡ checked p
   unfolding checked
-  check_refused e ne = refused (λ number spots. record { number = number; spots = spots }) (spot_row (list_of p)) (replicate 21 0) e ne
+  check_refused {number} spots e ne =
+      let none : given number spots (replicate 21 0) ≡ replicate 21 0 = given_refused number spots (replicate 21 0) ne in
+      ap (λ (l : List ℕ). with_spots number l) none ∙ refused with_spots (spot_row (list_of p)) (replicate 21 0) e ne
 
   -- n is in its range, and nothing stands past n: the pass over the names decides
-  pub check_names : size_of p.n ≡ 0 → {k : ℕ} → k ≡ p.n → all_zero (drop k p.cells) ≡ true → spotted k (take k p.cells) ≡ checked p
+  pub check_names : size_of p.n ≡ 0 → length p.cells ≡ 20 → {k : ℕ} → k ≡ p.n → {names past : List ℕ} → names ≡ take k p.cells → past ≡ drop k p.cells
+      → all_zero past ≡ true → spotted (length names) names ≡ checked p
   unfolding spotted checked record_number
-  check_names sized e zeros = rw (e, sized, rw e at zeros, and-true (once_each p.n (list_of p)))
+  check_names sized long {k} e {names} {past} front back zeros =
+      let whole : names ≡ list_of p = front ∙ ap (λ (m : ℕ). take m p.cells) e in
+      let many : length names ≡ p.n = ap length whole ∙ length-take-le p.n p.cells (omega (arith, (size_range p.n sized).1)) in
+      let rest : all_zero (drop p.n p.cells) ≡ true = ap (λ (m : ℕ). all_zero (drop m p.cells)) (sym e) ∙ ap all_zero (sym back) ∙ zeros in
+      rw (many, whole, sized, rest, and-true (once_each p.n (list_of p)))
 
 -- ---- what it answered
 module _ (p : Permutation) {r : Checked} (e : r ≡ checked p) where

@@ -1,4 +1,5 @@
 -- Laws that the proofs of the functions use.
+pub mod Refusals
 pub mod Records
 pub mod PushedRows
 pub mod Answering

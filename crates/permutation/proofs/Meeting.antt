@@ -5,13 +5,12 @@ use mathlib.Core.Bool.{true, cond}
 use mathlib.Core.List.{List, [], ◌∷◌, ◌++◌}
 use mathlib.Core.Logic.{◌⊎◌, inl, inr, ⊎_elim}
 use Prim.Native.Nat.{ℕ, zero, suc, ◌+◌, ◌%◌, ◌^◌, ◌≤◌, ◌<◌}
-use native.Mathlib.Nat.{le_refl}
 use native.Mathlib.Numerals.{add-one}
 use native.Mathlib.Omega.{arith}
 use borrow.Author.Tests.{lt-ltb, le-ltb}
 use lib.Count.{ones}
 use lib.ListN.{length, get_or, take, drop, set, replicate, length-set, length-append, get_or-replicate}
-use lib.Seq.{take-suc, take-take, get_or-take, get_or-set_same, get_or-set_other, length-take-le, split_at, ext_get_or}
+use lib.Seq.{take-suc, get_or-set_same, get_or-set_other, length-take-le, split_at, ext_get_or}
 use Rattle.theory.specs.Reasons.{done, muddle}
 use Rattle.theory.specs.Lists.{delta, count, member}
 use Rattle.theory.proofs.Cases.{by_test, by_name}
@@ -19,8 +18,8 @@ use Rattle.theory.proofs.Counts.{delta_self, delta_ne, count_append}
 use Rattle.theory.proofs.Members.{member_count, count_none}
 use Rattle.theory.proofs.Permutations.{inside}
 use Rattle.permutation.specs.Records.{once_each}
-use Rattle.permutation.specs.Spots.{spot, spot_row, without_spots, spotted}
-use Rattle.permutation.specs.declared.validity.Checked.{Checked}
+use Rattle.permutation.specs.Spots.{spot, spot_row, leaving, spotted}
+use Rattle.permutation.specs.Spots.{Checked}
 use Rattle.permutation.proofs.Records.{once_count, count_once, once_permutation}
 use Rattle.permutation.proofs.Spots.{spot_row_at, spot_row_length, under, under_le, under_snoc, under_suc, spot_first}
 use Rattle.permutation.proofs.Marks.{Marks, bit_small, marks_start, marks_turn}
@@ -92,55 +91,48 @@ module _ {n : ℕ} {T spots : List ℕ} {seen : ℕ} (m : Met n T spots seen) (f
         mask = marks_turn x m.mask (omega arith) none;
       }
 
--- ---- a turn of the pass: it is at index i of the cells, where x stands
-pub record Turn (n i x : ℕ) (cells : List ℕ) : Type 0 where
-  pub few : n ≤ 20
-  pub long : length cells ≡ 20
-  pub more : i < n
-  pub is : x ≡ get_or cells i 0
+-- ---- a turn of the pass: it is at index i of the names, where x stands
+pub record Turn (i x : ℕ) (names : List ℕ) : Type 0 where
+  pub few : length names ≤ 20
+  pub more : i < length names
+  pub is : x ≡ get_or names i 0
 
-module _ {n i x : ℕ} {cells : List ℕ} (t : Turn n i x cells) where
-  names_long : (k : ℕ) → k ≤ n → length (take k cells) ≡ k
-  names_long k h = length-take-le k cells (omega arith)
-
+module _ {i x : ℕ} {names : List ℕ} (t : Turn i x names) where
   -- the names met, then x, and then others
-  parts : take n cells ≡ take i cells ++ x ∷ drop (suc i) (take n cells)
-  parts =
-      let h : i < length (take n cells) = omega (arith, names_long n (le_refl n)) in
-      let before : take i (take n cells) ≡ take i cells = take-take i n cells (omega arith) in
-      let here : get_or (take n cells) i 0 ≡ x = get_or-take n cells i 0 t.more ∙ sym t.is in
-      cc (split_at (take n cells) i 0 h)
+  parts : names ≡ take i names ++ x ∷ drop (suc i) names
+  parts = let is = t.is in cc (split_at names i 0 t.more)
 
-  has_name : (c : ℕ) → count c (take n cells) ≡ count c (take i cells) + (delta x c + count c (drop (suc i) (take n cells)))
-  has_name c = ap (count c) parts ∙ count_append c (take i cells) (x ∷ drop (suc i) (take n cells))
+  has_name : (c : ℕ) → count c names ≡ count c (take i names) + (delta x c + count c (drop (suc i) names))
+  has_name c = ap (count c) parts ∙ count_append c (take i names) (x ∷ drop (suc i) names)
 
   -- x rules a permutation out
-  ruled_out : (once_each n (take n cells) ≡ true → ⊥) → without_spots muddle ≡ spotted n (take n cells)
+  ruled_out : (once_each (length names) names ≡ true → ⊥) → leaving muddle [] ≡ spotted (length names) names
   unfolding spotted
-  ruled_out h = by_test (once_each n (take n cells)) (λ e. absurd (h e)) (λ e. rw e)
+  ruled_out h = by_test (once_each (length names) names) (λ e. absurd (h e)) (λ e. rw e)
 
-  pub met_outside : ((1 ≤ x) × (x ≤ n) → ⊥) → without_spots muddle ≡ spotted n (take n cells)
+  pub met_outside : ((1 ≤ x) × (x ≤ length names) → ⊥) → leaving muddle [] ≡ spotted (length names) names
   met_outside h =
       ruled_out (λ e.
-      let o = once_permutation n (take n cells) (names_long n (le_refl n)) e in
-      h (inside n (take n cells) o x (omega (arith, has_name x, delta_self x))))
+      let o = once_permutation (length names) names refl e in
+      h (inside (length names) names o x (omega (arith, has_name x, delta_self x))))
 
-  module _ {spots : List ℕ} {seen : ℕ} (m : Met n (take i cells) spots seen) (pos : 1 ≤ x) (high : x ≤ n) where
-    pub met_twice : (get_or spots x 0 ≡ 20 → ⊥) → without_spots muddle ≡ spotted n (take n cells)
+  module _ {spots : List ℕ} {seen : ℕ} (m : Met (length names) (take i names) spots seen) (pos : 1 ≤ x) (high : x ≤ length names) where
+    pub met_twice : (get_or spots x 0 ≡ 20 → ⊥) → leaving muddle [] ≡ spotted (length names) names
     met_twice ne =
         ruled_out (λ e.
-        omega (arith, once_count n (take n cells) e x pos high, has_name x, delta_self x, old_name m t.few x pos high ne))
+        omega (arith, once_count (length names) names e x pos high, has_name x, delta_self x, old_name m t.few x pos high ne))
+
+    met_long : length (take i names) ≡ i
+    met_long = length-take-le i names (omega arith)
 
     pub met_fits : seen + 2 ^ x < 2 ^ 32
-    met_fits = omega (arith, bit_small x (omega arith), names_long i (omega arith))
+    met_fits = omega (arith, bit_small x (omega arith), met_long)
 
     pub met_turn :
-        (v : ℕ) → get_or spots x 0 ≡ 20 → v ≡ ones (seen % 2 ^ x) → Met n (take (i + 1) cells) (set spots x v) (seen + 2 ^ x)
+        (v : ℕ) → get_or spots x 0 ≡ 20 → v ≡ ones (seen % 2 ^ x) → Met (length names) (take (i + 1) names) (set spots x v) (seen + 2 ^ x)
     met_turn v e is =
-        let in_cells : i < length cells = omega arith in
-        let next : take (i + 1) cells ≡ take i cells ++ x ∷ [] = rw (add-one, t.is) (take-suc cells i 0 in_cells) in
-        let room : length (take i cells) < n = omega (arith, names_long i (omega arith)) in
-        rw next (met_more m t.few x pos high v room e is)
+        let next : take (i + 1) names ≡ take i names ++ x ∷ [] = rw (add-one, t.is) (take-suc names i 0 t.more) in
+        rw next (met_more m t.few x pos high v (omega (arith, met_long)) e is)
 
 -- ---- all were met
 few_under : (m : ℕ) (T : List ℕ) → under 1 T ≡ 0 → ((c : ℕ) → c ≤ m → count c T ≤ 1) → under (suc m) T ≤ m

@@ -1,14 +1,15 @@
 -- When a record is refused, and what one has that is not: it is the record of a permutation. Assumes nothing.
 use mathlib.Core.Path.{◌≡◌, refl, ap, sym, ◌∙◌}
-use mathlib.Core.Bool.{true, false, cond, ◌&&◌, and-eq-true_iff}
+use mathlib.Core.Bool.{Bool, true, false, cond, ◌&&◌, and-eq-true_iff}
 use mathlib.Core.List.{List, [], ◌∷◌, ◌++◌}
 use Prim.Native.Nat.{ℕ, zero, suc, ◌-◌, ◌≤◌}
 use native.Mathlib.Omega.{arith}
 use borrow.Author.Tests.{eqb-true, eq-eqb}
 use lib.Dec.{eqb}
+use Rattle.std.specs.List.{list_all}
 use lib.ListN.{length, drop, replicate, length-drop, take-append-drop}
 use lib.Seq.{length-take-le, take-append_seam, drop-append_seam}
-use Rattle.theory.specs.Reasons.{done, size, muddle}
+use Rattle.theory.specs.Reasons.{done, muddle}
 use Rattle.theory.specs.Refusal.{size_of}
 use Rattle.theory.specs.Lists.{count}
 use Rattle.theory.specs.Permutation.{IsPermutation, row}
@@ -40,6 +41,11 @@ permutation_once : (n : ℕ) (xs : List ℕ) → IsPermutation n xs → once_eac
 permutation_once n xs o = count_once n xs o.once
 
 -- ---- nothing but zeros
+pub zeros_tested : (xs : List ℕ) → list_all (λ x. eqb x 0) xs ≡ all_zero xs
+unfolding all_zero
+zeros_tested [] = refl
+zeros_tested (x ∷ xs) = ap (λ (b : Bool). eqb x 0 && b) (zeros_tested xs)
+
 pub zeros_all : (n : ℕ) → all_zero (replicate n 0) ≡ true
 unfolding all_zero
 zeros_all zero = refl
@@ -70,9 +76,10 @@ record_back p few long none =
 
 -- ---- why a record is refused, by the tests that tell
 module _ (p : Permutation) where
-  pub fault_size : size ≡ size_of p.n → size ≡ record_number p
+  -- a number that its size is refused by
+  pub size_first : {k : ℕ} → k ≡ size_of p.n → (k ≡ 0 → ⊥) → k ≡ record_number p
   unfolding record_number
-  fault_size e = or_else_refused (size_of p.n) _ e (λ z. omega arith)
+  size_first e ne = or_else_refused (size_of p.n) _ e ne
 
   module _ (sized : size_of p.n ≡ 0) where
     pub fault_muddle : (once_each p.n (list_of p) && all_zero (drop p.n p.cells)) ≡ false → muddle ≡ record_number p

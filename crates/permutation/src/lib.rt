@@ -2,7 +2,6 @@
 #![tactic(auto)]
 
 pub mod answers; // the record and the answers
-pub mod cell; // a byte of a row as a wider number
 pub mod insert; // a cell put in among others
 pub mod push; // push to the top
 pub mod reasons; // why a job is refused

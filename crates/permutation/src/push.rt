@@ -1,16 +1,16 @@
 // Push: the cell at a place goes to place 1, and those above it move down one.
 ghost use Rattle.std.specs.Prelude.{◌≡◌, ◌≤◌, length};
 ghost use Rattle.theory.specs.Push as meaning;
-ghost use Rattle.permutation.specs.Answers.{push_answer};
+ghost use Rattle.permutation.specs.Answers.{push_answer, as_permuted};
 
-use super::answers::{Permutation, Permuted, no_permutation};
+use super::answers::Permutation;
 use super::insert::put_in;
-use super::reasons::VALUE;
+use super::reasons::Refusal;
 use super::validity::check;
 
 // In place. For other crates too: it asks for a place of the row.
 pub fn push_row(cells: &mut [u8; 20], place: usize)
-    requires { (1 ≤ place) × (place ≤ 20) × (length cells.old ≡ 20) }
+    requires { (1 ≤ place) × (place ≤ 20) }
     ensures { cells.new ≡ meaning.push place cells.old }
 {
     let c = cells[place - 1];
@@ -18,33 +18,22 @@ pub fn push_row(cells: &mut [u8; 20], place: usize)
 }
 
 // By value: a row goes in and comes back pushed.
-fn pushed_row(cells: [u8; 20], place: usize) -> [u8; 20]
+fn pushed_row(mut cells: [u8; 20], place: usize) -> [u8; 20]
     requires { (1 ≤ place) × (place ≤ 20) }
     ensures { result ≡ meaning.push place cells }
 {
-    let mut row = cells;
-    push_row(&mut row, place);
-    row
+    push_row(&mut cells, place);
+    cells
 }
 
-pub fn push(permutation: Permutation, place: usize) -> Permuted
-    ensures { result ≡ push_answer permutation place }
+pub fn push(permutation: Permutation, place: usize) -> Result<Permutation, Refusal>
+    ensures { as_permuted result ≡ push_answer permutation place }
 {
-    let number = check(permutation).number;
-    if number != 0 {
-        return no_permutation(number);
-    }
+    check(permutation)?;
     let n = permutation.n;
-    if place < 2 {
-        return no_permutation(VALUE);
+    if !(2..=n).contains(&place) {
+        return Err(Refusal::Value);
     }
-    if n < place {
-        return no_permutation(VALUE);
-    }
-    let row = permutation.cells;
-    let cells = pushed_row(row, place);
-    Permuted {
-        number: 0,
-        permutation: Permutation { n, cells },
-    }
+    let cells = pushed_row(permutation.cells, place);
+    Ok(Permutation { n, cells })
 }

@@ -1,40 +1,18 @@
 // Is a record a permutation? One pass tells, and gives each cell's spot: how many smaller cells stand before it.
-ghost use Rattle.std.specs.Prelude.{◌≡◌, ◌%◌, ◌^◌, ◌≤◌, length, take, drop};
+ghost use Rattle.std.specs.Prelude.{◌≡◌, ◌%◌, ◌^◌, ◌≤◌, length};
 ghost use Rattle.std.specs.Int.Count.{ones};
 ghost use Rattle.permutation.specs.Records.{all_zero};
-ghost use Rattle.permutation.specs.Spots.{without_spots, leaving, spotted, checked};
+ghost use Rattle.permutation.specs.Spots.{leaving, spotted, checked, as_checked};
+ghost use Rattle.permutation.specs.Refusals.{number_in};
 
 use super::answers::Permutation;
-use super::cell::wide;
-use super::reasons::{MUDDLE, SIZE, size_within};
+use super::reasons::{Refusal, size_within};
 
-// SIZE, MUDDLE, or 0 for a permutation. The spots are by cell name: 20, which is no spot, for a name that stands nowhere, and zeros beside a refusal.
-#[derive(Clone, Copy)]
-pub struct Checked {
-    pub number: u8,
-    pub spots: [u8; 21],
-}
-
-fn without_spots(number: u8) -> Checked
-    ensures { result ≡ without_spots number }
+// Do the places past a permutation's n all hold 0? For other crates too.
+pub fn all_zero(past: &[u8]) -> bool
+    ensures { result ≡ all_zero past.now }
 {
-    let spots = [0u8; 21];
-    Checked { number, spots }
-}
-
-// Does every place past n hold 0? For other crates too: it asks for a row of twenty, and n within it.
-pub fn all_zero(cells: &[u8; 20], n: usize) -> bool
-    requires { (n ≤ 20) × (length cells.now ≡ 20) }
-    ensures { result ≡ all_zero (drop n cells.now) }
-{
-    let mut i = n;
-    while i < 20 {
-        if cells[i] != 0 {
-            return false;
-        }
-        i += 1;
-    }
-    true
+    past.iter().all(|c| *c == 0)
 }
 
 fn bit(c: usize) -> u32
@@ -49,60 +27,46 @@ fn ones_below(seen: u32, c: usize) -> u8
     requires { c ≤ 20 }
     ensures { result ≡ ones (seen % 2 ^ c) }
 {
-    u32::count_ones(seen % bit(c)) as u8
+    (seen % bit(c)).count_ones() as u8
 }
 
-// Does each of 1 to n stand once in the first n places? MUDDLE, or 0 and the lent spots.
-fn spots_into(cells: &[u8; 20], n: usize, spots: &mut [u8; 21]) -> u8
-    requires { (n ≤ 20) × (length cells.now ≡ 20) }
-    ensures { leaving result spots.new ≡ spotted n (take n cells.now) }
+// Does each of 1 to n stand once among the n names? Muddle, or the lent spots.
+fn spots_into(names: &[u8], spots: &mut [u8; 21]) -> Result<(), Refusal>
+    requires { length names.now ≤ 20 }
+    ensures { leaving (number_in result) spots.new ≡ spotted (length names.now) names.now }
 {
     // 20 is no spot: a name not met yet
-    *spots = [20u8; 21];
+    *spots = [20; 21];
     // a mask of the names met
     let mut seen: u32 = 0;
-    let mut i: usize = 0;
-    while i < n {
-        let c = wide(cells[i]);
-        if c == 0 {
-            return MUDDLE;
-        }
-        if n < c {
-            return MUDDLE;
-        }
-        if spots[c] != 20 {
-            return MUDDLE;
+    for name in names {
+        let c = usize::from(*name);
+        if !(1..=names.len()).contains(&c) || spots[c] != 20 {
+            return Err(Refusal::Muddle);
         }
         spots[c] = ones_below(seen, c);
         seen += bit(c);
-        i += 1;
     }
-    0
+    Ok(())
 }
 
 // The check with the spots lent: a copy of a row that was just written byte by byte waits for its bytes. Beside a refusal nothing is said of them. For other crates.
-pub fn check_into(permutation: Permutation, spots: &mut [u8; 21]) -> u8
-    ensures { leaving result spots.new ≡ checked permutation }
+pub fn check_into(permutation: Permutation, spots: &mut [u8; 21]) -> Result<(), Refusal>
+    ensures { leaving (number_in result) spots.new ≡ checked permutation }
 {
-    let cells = permutation.cells;
-    let n = size_within(permutation.n);
-    if n == 0 {
-        return SIZE;
+    let n = size_within(permutation.n)?;
+    let (names, past) = permutation.cells.split_at(n);
+    if all_zero(past) {
+        return spots_into(names, spots);
     }
-    if all_zero(&cells, n) {
-        return spots_into(&cells, n, spots);
-    }
-    MUDDLE
+    Err(Refusal::Muddle)
 }
 
-// For other crates too.
-pub fn check(permutation: Permutation) -> Checked
-    ensures { result ≡ checked permutation }
+// The spots of a permutation, by cell name: 20, which is no spot, for a name that stands nowhere. For other crates too.
+pub fn check(permutation: Permutation) -> Result<[u8; 21], Refusal>
+    ensures { as_checked result ≡ checked permutation }
 {
-    let mut spots = [0u8; 21];
-    let number = check_into(permutation, &mut spots);
-    if number != 0 {
-        return without_spots(number);
-    }
-    Checked { number: 0, spots }
+    let mut spots = [0; 21];
+    check_into(permutation, &mut spots)?;
+    Ok(spots)
 }

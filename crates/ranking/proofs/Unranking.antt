@@ -5,9 +5,13 @@ use mathlib.Core.List.{List, [], ◌∷◌, ◌++◌, append-nil}
 use Prim.Native.Nat.{ℕ, zero, suc, ◌+◌, ◌-◌, ◌/◌, ◌%◌, ◌≤◌, ◌<◌}
 use native.Mathlib.Nat.{mod-lt}
 use native.Mathlib.Omega.{arith}
-use borrow.Author.Tests.{lt-ltb, le-ltb, le-leb, lt-leb}
-use lib.ListN.{length, take, drop, replicate, length-append, length-drop, take-append-drop}
+use borrow.Author.Tests.{ltb-true, lt-ltb, le-ltb, le-leb, lt-leb}
+use lib.Dec.{ltb}
+use lib.ListN.{length, take, drop, replicate, length-drop, take-append-drop}
 use lib.Seq.{length-take-le, take-nil, drop-nil}
+use Rattle.theory.specs.Factorial.{factorial}
+use Rattle.theory.specs.Refusal.{size_of}
+use Rattle.theory.proofs.Refusal.{or_else_done, tested, size_range}
 use Rattle.theory.specs.Lists.{count}
 use Rattle.theory.specs.Permutation.{IsPermutation}
 use Rattle.theory.specs.Unrank.{place_of_digit, insert_at, unrank}
@@ -18,6 +22,7 @@ use Rattle.theory.proofs.Permutations.{empty, added, absent_past}
 use Rattle.theory.proofs.FilledRow.{over_row}
 use Rattle.permutation.specs.Records.{record_of}
 use Rattle.permutation.specs.Insert.{put_in}
+use Rattle.ranking.specs.Answers.{unrank_number}
 use Rattle.ranking.specs.BySpots.{passed, spot_after, cells_by_spots}
 use Rattle.permutation.specs.declared.answers.Permutation.{Permutation}
 use Rattle.ranking.proofs.Circle.{around, insert_around}
@@ -101,11 +106,6 @@ fill_more down (suc m) s r p j xs row pos place spot e =
     rw (here, e, q)
     (put_front (cells_by_spots (not down) m j (r / suc m)) xs m j (suc m) (cells_permutation (not down) m j (r / suc m)).long (omega (arith, spot.1)))
 
-pub fill_length : (down : Bool) (m s r : ℕ) (xs row : List ℕ) → m ≤ length xs → row ≡ cells_by_spots down m s r ++ drop m xs → length row ≡ length xs
-fill_length down m s r xs row h e =
-    let cells = cells_by_spots down m s r in
-    omega (arith, ap length e, length-append cells (drop m xs), length-drop m xs, (cells_permutation down m s r).long)
-
 -- a row of zeros, filled
 pub unrank_record : (n r : ℕ) (row : List ℕ) → n ≤ 20 → row ≡ cells_by_spots true n 0 r ++ drop n (replicate 20 0)
     → ◌≡◌ {A = Permutation} (record { n = n; cells = row }) (record_of (unrank n r))
@@ -113,3 +113,10 @@ unrank_record n r row few e =
     let long = (unrank_permutation n r).long in
     ap₂ (λ (k : ℕ) (l : List ℕ). record { n = k; cells = l }) (sym long)
     (e ∙ ap (λ (l : List ℕ). l ++ drop n (replicate 20 0)) (sym (unrank_spots n r)) ∙ over_row 20 0 (unrank n r) long few)
+
+-- a rank that is not refused: n is at most 20, and the rank below n!
+pub unrank_taken : (n r : ℕ) → 0 ≡ unrank_number n r → (n ≤ 20) × (r < factorial n)
+unfolding unrank_number
+unrank_taken n r e =
+    let b = or_else_done (size_of n) _ (sym e) in
+    ((size_range n b.0).1, ltb-true r (factorial n) (tested (ltb r (factorial n)) (λ z. omega arith) b.1))

@@ -3,7 +3,7 @@ use mathlib.Core.Path.{◌≡◌, refl, sym, ap, ap₂, ◌∙◌}
 use mathlib.Core.List.{List}
 use Prim.Native.Nat.{ℕ, suc, ◌+◌, ◌-◌, ◌*◌, ◌^◌, ◌≤◌, ◌<◌}
 use native.Mathlib.Omega.{arith}
-use lib.ListN.{get_or, take}
+use lib.ListN.{get_or, take, length}
 use lib.Seq.{get_or-take}
 use Rattle.theory.specs.Factorial.{falling}
 use Rattle.theory.specs.Permutation.{IsPermutation, row}
@@ -13,10 +13,12 @@ use Rattle.theory.proofs.Factorials.{factorials, falling_quotient}
 use Rattle.theory.proofs.Padding.{padding}
 use Rattle.theory.proofs.Weights.{weighted_value, weighted_below}
 use Rattle.theory.proofs.Ranking.{digits_long, digits_rank, ranking}
-use Rattle.permutation.specs.Records.{record_of}
-use Rattle.permutation.proofs.Records.{fault_record}
+use Rattle.permutation.specs.Records.{list_of, record_of, record_number}
+use Rattle.permutation.specs.declared.answers.Permutation.{Permutation}
+use Rattle.permutation.proofs.Records.{Sound, sound, fault_record}
 use Rattle.permutation.proofs.Answering.{list_record}
 use Rattle.ranking.specs.Answers.{rank_answer, value_answer}
+use Rattle.ranking.specs.declared.answers.Ranked.{Ranked}
 use Rattle.ranking.specs.Zeros.{value_on}
 use Rattle.ranking.specs.declared.zero.Zero.{Zero}
 use Rattle.ranking.specs.BySpots.{Bounded}
@@ -78,3 +80,16 @@ module _ (n : ℕ) (xs : List ℕ) (few : 2 ≤ n) (many : n ≤ 20) (o : IsPerm
   pub valued_record : (z : Zero) → value_answer (record_of xs) z ≡ record { number = 0; value = value_on z n xs }
   unfolding value_answer
   valued_record z = rw (fault_record n xs few many o, list_record n xs few many o, o.long)
+
+-- ---- what the answer of a job that gives a rank tells of its record
+module _ (p : Permutation) {a : Ranked} (e : a ≡ rank_answer p) where
+  pub rank_number : a.number ≡ record_number p
+  unfolding rank_answer
+  rank_number = ap (λ (k : Ranked). k.number) e
+
+  pub rank_sound : length p.cells ≡ 20 → a.number ≡ 0 → Sound p
+  rank_sound long z = sound p long (sym rank_number ∙ z)
+
+  pub rank_is : Sound p → a.rank ≡ rank p.n (list_of p)
+  unfolding rank_answer
+  rank_is s = ap (λ (k : Ranked). k.rank) e ∙ rw s.fault

@@ -1,12 +1,14 @@
 -- What the public functions answer, for all inputs. "A job sent back gives the number, 0 for every other number, an order record or digit row of zeros".
 -- Assumes nothing.
-use Rattle.std.specs.Prelude.{cond, [], ℕ, ltb}
+use Rattle.std.specs.Prelude.{cond, List, [], ℕ, ltb, Result}
 use Rattle.theory.specs.Reasons.{done, value}
 use Rattle.theory.specs.Factorial.{factorial}
 use Rattle.theory.specs.Permutation.{row}
 use Rattle.theory.specs.Rank.{rank, digits}
 use Rattle.theory.specs.Unrank.{unrank}
 use Rattle.permutation.specs.Records.{list_of, record_number}
+use Rattle.permutation.specs.Refusals.{number_in, given_in}
+use Rattle.permutation.specs.declared.reasons.Refusal.{Refusal}
 use Rattle.theory.specs.Refusal.{given, or_else, size_of}
 use Rattle.permutation.specs.Answers.{permuted}
 use Rattle.permutation.specs.declared.answers.Permutation.{Permutation}
@@ -16,6 +18,16 @@ use Rattle.ranking.specs.declared.answers.Ranked.{Ranked}
 use Rattle.ranking.specs.declared.answers.Valued.{Valued}
 use Rattle.ranking.specs.declared.zero.Zero.{Zero}
 use Rattle.ranking.specs.Zeros.{value_on, permutation_on, zero_number, numbered_zero}
+
+-- what a job gives, as C gets it: a number, and zeros where it is not 0
+abbrev pub as_digits : Result (List ℕ) Refusal → Digits
+as_digits r = record { number = number_in r; row = given_in (row []) r }
+
+abbrev pub as_ranked : Result ℕ Refusal → Ranked
+as_ranked r = record { number = number_in r; rank = given_in 0 r }
+
+abbrev pub as_valued : Result ℕ Refusal → Valued
+as_valued r = record { number = number_in r; value = given_in 0 r }
 
 -- "Digits b0 first, n of them, the last always 0, in a row of twenty with 0 past n."
 unfoldable pub digits_answer : Permutation → Digits

@@ -1,12 +1,11 @@
 // The digits, by spots. The circle of the cells 1 to m is read downward and upward by turns as m falls, and no remaining permutation is copied.
-ghost use Rattle.std.specs.Prelude.{◌≡◌, true, false, ◌+◌, ◌≤◌, ◌<◌, length};
+ghost use Rattle.std.specs.Prelude.{◌≡◌, true, false, ◌+◌, ◌≤◌, ◌<◌};
 ghost use Rattle.theory.specs.Rank as meaning;
-ghost use Rattle.ranking.specs.Answers.{digits_answer};
+ghost use Rattle.ranking.specs.Answers.{as_digits, digits_answer};
 ghost use Rattle.ranking.specs.BySpots.{Low, passed, read_into};
 
-use super::answers::Digits;
 use permutation::answers::Permutation;
-use permutation::cell::wide;
+use permutation::reasons::Refusal;
 use permutation::validity::check_into;
 
 // The digit of cell m, of m cells, that is met past `passed` others: its place less 2, modulo m. At every place but 1 the place less 2 is the digit itself, so that
@@ -23,58 +22,54 @@ fn digit_of(m: usize, passed: usize) -> u8
     }
 }
 
-// How many cells are passed from the gap s, which is before the cell at spot s, to the cell at spot j, of m on the circle: down the places.
-fn passed_down(m: usize, s: usize, j: usize) -> usize
+// How many cells are passed from the gap s, which is before the cell at spot s, to the cell at spot j, of m on the circle: down the places, or up. The direction turns
+// round from cell to cell.
+#[tactic(auto, using(std::proofs::lemmas::Bool::Decides::nat_tests), unfolding(crate::specs::BySpots::passed))]
+fn passed(down: bool, m: usize, s: usize, j: usize) -> usize
     requires { (s ≤ m) × (j < m) × (m ≤ 20) }
-    ensures { result ≡ passed true m s j }
+    ensures { result ≡ passed down m s j }
 {
-    if s <= j { j - s } else { j + m - s }
+    if down {
+        if s <= j { j - s } else { j + m - s }
+    } else {
+        if j < s { s - 1 - j } else { s + m - 1 - j }
+    }
 }
 
-// Up the places.
-fn passed_up(m: usize, s: usize, j: usize) -> usize
-    requires { (s ≤ m) × (j < m) × (m ≤ 20) }
-    ensures { result ≡ passed false m s j }
-{
-    if j < s { s - 1 - j } else { s + m - 1 - j }
-}
-
-// The digits of the cells m, m-1, .., 1 go to the row's places up to n. The circle is read down the places, from the gap s on.
+// The digits of the cells m, m-1, .., 1 go to the row's places up to n. The circle is read by turns, so that there are two readers: this one goes down the places,
+// from the gap s on, and leaves the smaller cells to the other.
 #[cycle(read_down_read_up)]
 fn read_down(spots: &[u8; 21], n: usize, s: usize, m: usize, row: &mut [u8; 20])
-    requires { (n ≤ 20) × (m ≤ n) × (s ≤ m) × (length row.old ≡ 20) × Low spots.now m }
+    requires { (n ≤ 20) × (m ≤ n) × (s ≤ m) × Low spots.now m }
     ensures { row.new ≡ read_into true n m s spots.now row.old }
 {
     if 0 < m {
-        let j = wide(spots[m]);
-        row[n - m] = digit_of(m, passed_down(m, s, j));
+        let j = usize::from(spots[m]);
+        row[n - m] = digit_of(m, passed(true, m, s, j));
         read_up(spots, n, j, m - 1, row);
     }
 }
 
-// The same, and the circle is read up the places.
+// The same, up the places.
 #[cycle(read_down_read_up)]
 fn read_up(spots: &[u8; 21], n: usize, s: usize, m: usize, row: &mut [u8; 20])
-    requires { (n ≤ 20) × (m ≤ n) × (s ≤ m) × (length row.old ≡ 20) × Low spots.now m }
+    requires { (n ≤ 20) × (m ≤ n) × (s ≤ m) × Low spots.now m }
     ensures { row.new ≡ read_into false n m s spots.now row.old }
 {
     if 0 < m {
-        let j = wide(spots[m]);
-        row[n - m] = digit_of(m, passed_up(m, s, j));
+        let j = usize::from(spots[m]);
+        row[n - m] = digit_of(m, passed(false, m, s, j));
         read_down(spots, n, j, m - 1, row);
     }
 }
 
-pub fn digits(permutation: Permutation) -> Digits
-    ensures { result ≡ digits_answer permutation }
+pub fn digits(permutation: Permutation) -> Result<[u8; 20], Refusal>
+    ensures { as_digits result ≡ digits_answer permutation }
 {
-    let mut spots = [0u8; 21];
-    let number = check_into(permutation, &mut spots);
-    let mut row = [0u8; 20];
-    if number != 0 {
-        return Digits { number, row };
-    }
+    let mut spots = [0; 21];
+    check_into(permutation, &mut spots)?;
     let n = permutation.n;
+    let mut row = [0; 20];
     read_down(&spots, n, 0, n, &mut row);
-    Digits { number: 0, row }
+    Ok(row)
 }

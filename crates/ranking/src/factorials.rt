@@ -3,7 +3,8 @@ ghost use Rattle.std.specs.Prelude.{◌≡◌, ◌≤◌};
 ghost use Rattle.theory.specs.Factorial as meaning;
 ghost use Rattle.ranking.specs.Factorials.{factorial_table, factorial_within};
 
-const FACTORIALS: [u64; 21] = [
+// A static, so that an entry is read where the table stands: a constant array is written to the stack at each use.
+static FACTORIALS: [u64; 21] = [
     1,
     1,
     2,
@@ -27,28 +28,32 @@ const FACTORIALS: [u64; 21] = [
     2432902008176640000,
 ];
 
-// The table by value: a job that looks up more than one factorial makes it once.
-pub fn factorial_table() -> [u64; 21]
-    ensures { result ≡ factorial_table }
+// The table, whole: a clause can speak of what a function gives, and of no static, so that each table has such a function.
+pub fn factorial_table() -> &'static [u64; 21]
+    ensures { result.now ≡ factorial_table }
 {
-    FACTORIALS
+    &FACTORIALS
 }
 
-// n!, and 0 past 20!.
+// n!, and 0 past 20!: that it answers for every n is promised.
 pub fn factorial(n: usize) -> u64
     ensures { result ≡ factorial_within n }
 {
-    if 20 < n {
-        return 0;
-    }
-    let table = factorial_table();
-    table[n]
+    factorial_table().get(n).copied().unwrap_or(0)
 }
 
-// n!/(n-p)!, by the table, which a job makes once. It fits 64 bits as n! does. For other crates: it asks for the table, at most twenty cells, and p at most n.
-pub fn falling(table: &[u64; 21], n: usize, p: usize) -> u64
-    requires { (table.now ≡ factorial_table) × (n ≤ 20) × (p ≤ n) }
+// n! of at most twenty cells, which the caller knows that there are. For other crates too.
+pub fn small_factorial(n: usize) -> u64
+    requires { n ≤ 20 }
+    ensures { result ≡ meaning.factorial n }
+{
+    factorial_table()[n]
+}
+
+// n!/(n-p)!. It fits 64 bits as n! does. For other crates: it asks for at most twenty cells, and p at most n.
+pub fn falling_factorial(n: usize, p: usize) -> u64
+    requires { (n ≤ 20) × (p ≤ n) }
     ensures { result ≡ meaning.falling n p }
 {
-    table[n] / table[n - p]
+    small_factorial(n) / small_factorial(n - p)
 }

@@ -2,7 +2,7 @@
 // every input.
 #![tactic(auto)]
 
-pub mod answers; // what the jobs answer
+pub mod answers; // what the jobs give, as C gets it
 pub mod digits; // the b-factoradic digits
 pub mod factorials; // the table of factorials, and their quotients
 pub mod permutation_of_value; // the permutation of a value

@@ -1,12 +1,15 @@
 // The value: the rank, counted from a zero.
 ghost use Rattle.std.specs.Prelude.{◌≡◌, ◌+◌, ◌-◌, ◌%◌, ◌≤◌, ◌<◌};
-ghost use Rattle.ranking.specs.Answers.{value_answer, value_by_number_answer};
+ghost use Rattle.theory.specs.Factorial.{factorial};
+ghost use Rattle.theory.specs.Rank as meaning;
+ghost use Rattle.ranking.specs.Answers.{as_valued, value_answer, value_by_number_answer};
+ghost use Rattle.ranking.specs.Zeros.{zero_permutation};
 
-use super::answers::Valued;
-use super::factorials::factorial;
+use super::factorials::small_factorial;
 use super::rank::rank;
-use super::zero::{Zero, numbered_zero, zero_number, zero_rank};
+use super::zero::{Zero, zero_rank};
 use permutation::answers::Permutation;
+use permutation::reasons::Refusal;
 
 // a less b modulo the limit, by one comparison and no division. Of numbers below 20! the sum fits 64 bits.
 fn less_modulo(a: u64, b: u64, limit: u64) -> u64
@@ -16,36 +19,25 @@ fn less_modulo(a: u64, b: u64, limit: u64) -> u64
     if b <= a { a - b } else { a + limit - b }
 }
 
-pub fn value(permutation: Permutation, zero: Zero) -> Valued
-    ensures { result ≡ value_answer permutation zero }
+// The value of a rank: the rank less that of the zero.
+fn value_of(rank: u64, n: usize, zero: Zero) -> u64
+    requires { (n ≤ 20) × (rank < factorial n) }
+    ensures { result ≡ (rank + factorial n - meaning.rank n (zero_permutation zero n)) % factorial n }
 {
-    let found = rank(permutation);
-    let number = found.number;
-    if number != 0 {
-        return Valued { number, value: 0 };
-    }
-    let n = permutation.n;
-    Valued {
-        number: 0,
-        value: less_modulo(found.rank, zero_rank(n, zero), factorial(n)),
-    }
+    less_modulo(rank, zero_rank(n, zero), small_factorial(n))
 }
 
-// The zero as a number: 0 for old, 1 for new; any other is VALUE.
-pub fn value_by_number(permutation: Permutation, zero: u8) -> Valued
-    ensures { result ≡ value_by_number_answer permutation zero }
+pub fn value(permutation: Permutation, zero: Zero) -> Result<u64, Refusal>
+    ensures { as_valued result ≡ value_answer permutation zero }
 {
-    let answer = value(permutation, numbered_zero(zero));
-    let number = answer.number;
-    if number != 0 {
-        return answer;
-    }
-    let unknown = zero_number(zero);
-    if unknown != 0 {
-        return Valued {
-            number: unknown,
-            value: 0,
-        };
-    }
-    answer
+    let found = rank(permutation)?;
+    Ok(value_of(found, permutation.n, zero))
+}
+
+// The zero as a number, as C has it. One that is none is refused after the reasons of the job itself.
+pub fn value_by_number(permutation: Permutation, zero: u8) -> Result<u64, Refusal>
+    ensures { as_valued result ≡ value_by_number_answer permutation zero }
+{
+    let found = rank(permutation)?;
+    Ok(value_of(found, permutation.n, Zero::try_from(zero)?))
 }

@@ -2,7 +2,8 @@
 ghost use Rattle.std.specs.Prelude.{◌≡◌, ◌≤◌};
 ghost use Rattle.ranking.specs.Weights.{weight_row, weight_table};
 
-const WEIGHTS: [[u64; 21]; 20] = [
+// A static, so that a row is read where the table stands: a constant array is written to the stack at each use.
+static WEIGHTS: [[u64; 21]; 20] = [
     [
         1, 1, 0, 0, 0, 0, 0, 0, 0, 0, 0, 0, 0, 0, 0, 0, 0, 0, 0, 0, 0,
     ],
@@ -209,27 +210,17 @@ const WEIGHTS: [[u64; 21]; 20] = [
     ],
 ];
 
-// The table by value.
-fn weight_table() -> [[u64; 21]; 20]
-    ensures { result ≡ weight_table }
+// The table, whole, for its rule.
+fn weight_table() -> &'static [[u64; 21]; 20]
+    ensures { result.now ≡ weight_table }
 {
-    WEIGHTS
+    &WEIGHTS
 }
 
-// The weights of n cells: one row after the other is taken, up to that of n. The loop goes on to the last, so that the compiler knows how often it turns, unrolls it
-// and has every row as constants; at an index that it does not know it would write the whole table to the stack first. For the rank: it asks for an n of the table.
-pub fn weight_row(n: usize) -> [u64; 21]
+// The weights of n cells. For the rank: it asks for an n of the table.
+pub fn weight_row(n: usize) -> &'static [u64; 21]
     requires { (1 ≤ n) × (n ≤ 20) }
-    ensures { result ≡ weight_row n }
+    ensures { result.now ≡ weight_row n }
 {
-    let table = weight_table();
-    let mut row = table[0];
-    let mut k: usize = 1;
-    while k < 20 {
-        if k < n {
-            row = table[k];
-        }
-        k += 1;
-    }
-    row
+    &weight_table()[n - 1]
 }

@@ -1,19 +1,35 @@
 // The zero that a group counts from, and its rank.
 ghost use Rattle.std.specs.Prelude.{◌≡◌, ◌≤◌};
 ghost use Rattle.theory.specs.Rank as meaning;
-ghost use Rattle.ranking.specs.Zeros.{zero_permutation, zero_number, numbered_zero, new_zero_ranks};
+ghost use Rattle.ranking.specs.Zeros.{zero_permutation, zero_gives};
 
-use permutation::reasons::VALUE;
+use permutation::reasons::Refusal;
 
 // Old, the permutation of rank 0, which modules already in cellars keep; or new, [1, 2, .., n].
-#[derive(Clone, Copy)]
+#[derive(Clone, Copy, Debug, PartialEq, Eq)]
 pub enum Zero {
     Old,
     New,
 }
 
+// A zero as a number, for C and in lists: 0 is old and 1 is new, and one that is neither is refused as a value.
+impl TryFrom<u8> for Zero {
+    type Error = Refusal;
+
+    ghost try_from_gives = { zero_gives };
+
+    #[tactic(auto, unfolding(crate::specs::Zeros::zero_number, crate::specs::Zeros::numbered_zero))]
+    fn try_from(number: u8) -> Result<Zero, Refusal> {
+        match number {
+            0 => Ok(Zero::Old),
+            1 => Ok(Zero::New),
+            _ => Err(Refusal::Value),
+        }
+    }
+}
+
 // The ranks of [1, 2, .., n] for n from 0 to 20.
-const NEW_ZERO_RANKS: [u64; 21] = [
+static NEW_ZERO_RANKS: [u64; 21] = [
     0,
     0,
     0,
@@ -37,13 +53,6 @@ const NEW_ZERO_RANKS: [u64; 21] = [
     1111640041132788938,
 ];
 
-// The table by value.
-fn new_zero_ranks() -> [u64; 21]
-    ensures { result ≡ new_zero_ranks }
-{
-    NEW_ZERO_RANKS
-}
-
 // The rank of the zero of n cells. For the jobs beside it: it asks for at most twenty cells.
 pub fn zero_rank(n: usize, zero: Zero) -> u64
     requires { n ≤ 20 }
@@ -51,24 +60,6 @@ pub fn zero_rank(n: usize, zero: Zero) -> u64
 {
     match zero {
         Zero::Old => 0,
-        Zero::New => {
-            let table = new_zero_ranks();
-            table[n]
-        }
+        Zero::New => NEW_ZERO_RANKS[n],
     }
-}
-
-// VALUE where a number is that of neither zero.
-#[tactic(auto, unfolding(crate::specs::Zeros::zero_number))]
-pub fn zero_number(number: u8) -> u8
-    ensures { result ≡ zero_number number }
-{
-    if 1 < number { VALUE } else { 0 }
-}
-
-// The zero of a number: 0 is old, 1 is new. One that is neither gives new, and the job that asks refuses it.
-pub fn numbered_zero(number: u8) -> Zero
-    ensures { result ≡ numbered_zero number }
-{
-    if number == 0 { Zero::Old } else { Zero::New }
 }

@@ -1,50 +1,55 @@
--- One turn of the loops along a row: a name that goes to a list, and where a cell is. Assumes nothing.
-use mathlib.Core.Path.{◌≡◌}
+-- Where a cell is in a row, as `position` finds it. Assumes nothing.
+use mathlib.Core.Path.{◌≡◌, refl, ap, sym, ◌∙◌}
 use mathlib.Core.List.{List, [], ◌∷◌}
-use Prim.Native.Nat.{ℕ, suc, ◌+◌, ◌≤◌, ◌<◌}
-use native.Mathlib.Numerals.{add-one}
+use Prim.Native.Nat.{ℕ, ◌+◌, ◌-◌, ◌≤◌, ◌<◌}
 use native.Mathlib.Omega.{arith}
-use lib.ListN.{length, get_or, take, drop, set}
-use lib.Seq.{sets, length-take-le, slice-cons, slice_empty}
+use lib.ListN.{length, take, drop, length-drop}
+use lib.Seq.{length-take-le}
 use borrow.Author.Tests.{eq-eqb, ne_eqb}
+use Rattle.std.specs.List.{AllWithin, HoldsAt}
+use Rattle.std.specs.Option.{MatchOption, unwrap_or}
+use Rattle.std.specs.declared.option.Option.{Option}
+use Rattle.std.proofs.lemmas.Iterator.{index_from_first}
+use Rattle.std.proofs.lemmas.List.{drop-take}
 use Rattle.theory.specs.Permutation.{place_of}
-use Rattle.reach.proofs.Pieces.{PiecesLeft, pieces_start, piece_put, pieces_end}
+use Rattle.theory.proofs.Places.{place_of_low}
 
--- ---- the first n names of a row
+-- ---- what `position` answers, as a place
 
--- i of them are put
-abbrev pub Naming : List ℕ → ℕ → List ℕ → ℕ → List ℕ → ℕ → Type 0
-Naming first at row n list i = PiecesLeft first at (take n row) list (at + i) (drop i (take n row))
+module _ (c : ℕ) where
+  before : List ℕ → ℕ
+  before xs = place_of c xs - 1
 
-module _ (first : List ℕ) (at : ℕ) (row : List ℕ) (n : ℕ) (long : n ≤ length row) where
-  pub name_start : at + n ≤ length first → Naming first at row n first 0
-  name_start h = let q : at + 0 ≡ at = omega arith in rw q (pieces_start (omega (arith, length-take-le n row long)))
+  found_here : (x : ℕ) (xs : List ℕ) → x ≡ c → before (x ∷ xs) ≡ 0
+  unfolding place_of before
+  found_here x xs e = rw (eq-eqb x c e)
 
-  pub name_more :
-      {list : List ℕ} (i : ℕ) → Naming first at row n list i → i < n → Naming first at row n (set list (at + i) (get_or row i 0)) (i + 1)
-  name_more i v l =
-      let q : at + i + 1 ≡ at + (i + 1) = omega arith in
-      rw (q, ← add-one i) at (piece_put (get_or row i 0 ∷ []) (drop (suc i) (take n row)) (rw (slice-cons i n row 0 l long) at v))
+  found_later : (x : ℕ) (xs : List ℕ) → (x ≡ c → ⊥) → before (x ∷ xs) ≡ before xs + 1
+  unfolding place_of before
+  found_later x xs ne = rw (ne_eqb x c ne) (omega (arith, place_of_low c xs))
 
-  pub name_end : {list : List ℕ} (i : ℕ) → Naming first at row n list i → i ≡ n → list ≡ sets first at (take n row)
-  name_end i v e = (pieces_end (rw (e, slice_empty n row) at v)).1
+  found_none : before [] ≡ 0
+  unfolding place_of before
+  found_none = refl
 
--- ---- where a cell is, from index p on
+  -- of p cells and those behind them, up to n
+  module _ (row : List ℕ) {p n : ℕ} (first : p ≤ n) (long : n ≤ length row) where
+    behind : take (n - p) (drop p row) ≡ drop p (take n row)
+    behind = let q : p + (n - p) ≡ n = omega arith in sym (rw q at (drop-take p (n - p) row))
 
--- one more than its index, or than n where it is not among the first n
-abbrev pub place_from : List ℕ → ℕ → ℕ → ℕ → ℕ
-place_from row n c i = i + place_of c (drop i (take n row))
+    many : length (drop p (take n row)) ≡ n - p
+    many = length-drop p (take n row) ∙ rw (length-take-le n row long)
 
-module _ (row : List ℕ) (n c : ℕ) (long : n ≤ length row) where
-  module _ (i : ℕ) (l : i < n) where
-    pub place_here : get_or row i 0 ≡ c → place_from row n c i ≡ i + 1
-    unfolding place_of
-    place_here e = rw (slice-cons i n row 0 l long, eq-eqb (get_or row i 0) c e)
+    pub part_long : length (take (n - p) (drop p row)) ≡ n - p
+    part_long = ap length behind ∙ many
 
-    pub place_next : (get_or row i 0 ≡ c → ⊥) → place_from row n c i ≡ place_from row n c (i + 1)
-    unfolding place_of
-    place_next e = rw (slice-cons i n row 0 l long, ne_eqb (get_or row i 0) c e, add-one i) (omega arith)
-
-  pub place_none : {i : ℕ} → i ≡ n → place_from row n c i ≡ i + 1
-  unfolding place_of
-  place_none e = rw (e, slice_empty n row)
+    pub found_place :
+        (r : Option ℕ)
+        → let xs : List ℕ = take (n - p) (drop p row) in
+        MatchOption r (AllWithin (λ x. x ≡ c → ⊥) xs 0 (length xs)) (λ i. (i < length xs) × HoldsAt (λ x. x ≡ c) xs i × AllWithin (λ x. x ≡ c → ⊥) xs 0 i)
+        → p + unwrap_or r (n - p) + 1 ≡ p + place_of c (drop p (take n row))
+    unfolding before
+    found_place r m =
+        let is = index_from_first before (λ x. x ≡ c) (λ x. x ≡ c → ⊥) found_none found_here found_later (take (n - p) (drop p row)) r m in
+        let here : place_of c (drop p (take n row)) - 1 ≡ unwrap_or r (n - p) = rw (behind, many) at is in
+        omega (arith, here, place_of_low c (drop p (take n row)))

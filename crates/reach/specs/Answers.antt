@@ -1,5 +1,5 @@
 -- What the job answers, and the lent list that it leaves, for all inputs. Assumes nothing.
-use Rattle.std.specs.Prelude.{◌≡◌, cond, ◌&&◌, ℕ, ◌-◌, ◌*◌, ◌/◌, leb, length, drop}
+use Rattle.std.specs.Prelude.{◌≡◌, cond, ◌&&◌, ℕ, ◌-◌, ◌*◌, ◌/◌, leb, length, drop, Result}
 use mathlib.Core.List.{List, ◌++◌, flatten}
 use Rattle.theory.specs.Reasons.{done, fit, value}
 use Rattle.theory.specs.Refusal.{given, or_else}
@@ -7,7 +7,13 @@ use Rattle.theory.specs.Factorial.{factorial}
 use Rattle.theory.specs.Levels.{read_number, permutation_of}
 use Rattle.reach.specs.Reach.{within_reach}
 use Rattle.reach.specs.Claims.{Reaching, entry_of}
+use Rattle.permutation.specs.Refusals.{number_in, given_in}
+use Rattle.permutation.specs.declared.reasons.Refusal.{Refusal}
 use Rattle.reach.specs.declared.answers.Reached.{Reached}
+
+-- how many the job listed as C gets it: a number, and 0 where that is not 0
+abbrev pub as_reached : Result ℕ Refusal → Reached
+as_reached r = record { number = number_in r; permutations = given_in 0 r }
 
 -- "how many there are, n!/(n-r)!"
 abbrev pub reach_count : ℕ → ℕ → ℕ

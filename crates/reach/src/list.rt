@@ -1,87 +1,67 @@
 // Permutations in a lent list of bytes, one after another.
-ghost use Rattle.std.specs.Prelude.{◌≡◌, ◌+◌, ◌≤◌, ◌<◌, length, take, drop};
+ghost use Rattle.std.specs.Prelude.{◌≡◌, ◌≤◌, length, take};
 ghost use mathlib.Core.List.{flatten};
 ghost use Rattle.std.proofs.lemmas.List.Edits.{sets};
-ghost use Rattle.theory.specs.Permutation.{place_of};
 ghost use Rattle.reach.specs.Reach.{within_reach};
 ghost use Rattle.reach.specs.Led.{LedRow, HasRoom, led, led_then};
 
 use permutation::insert::put_in;
 
-// The row's first n names go to the list from index `at` on.
-fn list_names(list: &mut [u8], at: usize, row: &[u8; 20], n: usize)
-    requires { (n ≤ 20) × (length row.now ≡ 20) × (at + n ≤ length list.old) }
-    ensures { list.new ≡ sets list.old at (take n row.now) }
-{
-    let mut i: usize = 0;
-    while i < n {
-        list[at + i] = row[i];
-        i += 1;
-    }
-}
-
-// The index of cell c in the row, from p on; n where c is at no index from p to n - 1.
-fn index_from(row: &[u8; 20], p: usize, n: usize, c: u8) -> usize
-    requires { (p ≤ n) × (n ≤ 20) × (length row.now ≡ 20) }
-    ensures { (result + 1 ≡ p + place_of c (drop p (take n row.now))) × (p ≤ result) × (result ≤ n) }
-{
-    let mut i = p;
-    while i < n {
-        if row[i] == c {
-            return i;
-        }
-        i += 1;
-    }
-    i
-}
-
-// Of the permutations that `list_led` lists, those that have cell c behind the first p. Returns the index past them.
-#[cycle(list_led_list_led_then)]
-fn list_led_then(
-    list: &mut [u8],
-    from: usize,
-    row: &[u8; 20],
+// A row, of fixed memory, that has a permutation of n cells, of which the first p lead. Listed are those that they begin, and whose other cells are d pushes away from the row's.
+#[derive(Clone, Copy)]
+struct Led {
+    row: [u8; 20],
     n: usize,
     p: usize,
     d: usize,
-    c: u8,
-) -> usize
-    requires { LedRow row.now n p d × (1 ≤ d) × (1 ≤ c) × (c ≤ n) × HasRoom list.old from (led_then n row.now p d c) }
-    ensures index { result ≡ from + length (led_then n row.now p d c) }
-    ensures listed { list.new ≡ sets list.old from (led_then n row.now p d c) }
-{
-    let i = index_from(row, p, n, c);
-    if i == n {
-        return from;
-    }
-    // i is p and d is 1: that would be the row's own permutation, 0 pushes away
-    if i + d == p + 1 {
-        return from;
-    }
-    let mut next = *row;
-    put_in(&mut next, i, p, c);
-    list_led(list, from, &next, n, p + 1, d - 1)
+    ghost leads: { LedRow row n p d },
 }
 
-// From index `from` on come, of the permutations that begin with the row's first p cells, those whose other cells are d pushes away from the row's, in
-// lexicographic sequence: each name in turn is the next cell. Returns the index past them.
-#[cycle(list_led_list_led_then)]
-fn list_led(list: &mut [u8], from: usize, row: &[u8; 20], n: usize, p: usize, d: usize) -> usize
-    requires { LedRow row.now n p d × HasRoom list.old from (led n row.now p d) }
-    ensures index { result ≡ from + length (led n row.now p d) }
-    ensures listed { list.new ≡ sets list.old from (led n row.now p d) }
-{
-    if d == 0 {
-        list_names(list, from, row, n);
-        return from + n;
+impl Led {
+    // Of what is listed, the permutations that have cell c behind the first p. Returns how many bytes they take.
+    #[cycle(list_list_then)]
+    fn list_then(&self, list: &mut [u8], c: u8) -> usize
+        requires { (1 ≤ self.now.d) × (1 ≤ c) × (c ≤ self.now.n) × HasRoom list.old 0 (led_then self.now.n self.now.row self.now.p self.now.d c) }
+        ensures bytes { result ≡ length (led_then self.now.n self.now.row self.now.p self.now.d c) }
+        ensures listed { list.new ≡ sets list.old 0 (led_then self.now.n self.now.row self.now.p self.now.d c) }
+    {
+        let others = &self.row[self.p..self.n];
+        let Some(further) = others.iter().position(|cell| *cell == c) else {
+            return 0;
+        };
+        let i = self.p + further;
+        // i is p and d is 1: that would be the row's own permutation, 0 pushes away
+        if i + self.d == self.p + 1 {
+            return 0;
+        }
+        let mut row = self.row;
+        put_in(&mut row, i, self.p, c);
+        let next = Led {
+            row,
+            n: self.n,
+            p: self.p + 1,
+            d: self.d - 1,
+        };
+        next.list(list)
     }
-    let mut at = from;
-    let mut m: usize = 0;
-    while m < n {
-        at = list_led_then(list, at, row, n, p, d, (m + 1) as u8);
-        m += 1;
+
+    // To the list's start, in lexicographic sequence: each name in turn is the next cell. Returns how many bytes it is.
+    #[cycle(list_list_then)]
+    fn list(&self, list: &mut [u8]) -> usize
+        requires { HasRoom list.old 0 (led self.now.n self.now.row self.now.p self.now.d) }
+        ensures bytes { result ≡ length (led self.now.n self.now.row self.now.p self.now.d) }
+        ensures listed { list.new ≡ sets list.old 0 (led self.now.n self.now.row self.now.p self.now.d) }
+    {
+        if self.d == 0 {
+            list[..self.n].copy_from_slice(&self.row[..self.n]);
+            return self.n;
+        }
+        let mut at = 0;
+        for c in 1..=self.n as u8 {
+            at += self.list_then(&mut list[at..], c);
+        }
+        at
     }
-    at
 }
 
 // Those that are 0, 1, .., r pushes away, from the list's start.
@@ -89,10 +69,14 @@ pub fn list_within(list: &mut [u8], cells: &[u8; 20], n: usize, r: usize)
     requires { LedRow cells.now n 0 r × HasRoom list.old 0 (flatten (within_reach n (take n cells.now) r)) }
     ensures { list.new ≡ sets list.old 0 (flatten (within_reach n (take n cells.now) r)) }
 {
-    let mut at: usize = 0;
-    let mut d: usize = 0;
-    while d <= r {
-        at = list_led(list, at, cells, n, 0, d);
-        d += 1;
+    let mut at = 0;
+    for d in 0..=r {
+        let led = Led {
+            row: *cells,
+            n,
+            p: 0,
+            d,
+        };
+        at += led.list(&mut list[at..]);
     }
 }

@@ -4,8 +4,10 @@ use mathlib.Core.List.{List, [], ◌∷◌, ◌++◌, map, map-append, append_as
 use Prim.Native.Nat.{ℕ, suc, ◌+◌, ◌-◌, ◌≤◌, ◌<◌}
 use native.Mathlib.Nat.{sub-zero, sub_self}
 use native.Mathlib.Omega.{arith}
-use lib.ListN.{length, set, replicate, length-append, length-map}
+use lib.ListN.{length, take, drop, set, replicate, length-append, length-map, length-replicate}
+use Rattle.std.proofs.lemmas.List.{take-replicate}
 use Rattle.theory.specs.Lists.{padded}
+use Rattle.theory.proofs.FilledRow.{over_row}
 use Rattle.theory.proofs.Padding.{padded_none, padded_snoc}
 use Rattle.sheet.specs.Bytes.{Fault, Got, fault, got, after, many}
 
@@ -44,7 +46,7 @@ module _ {A B : Type 0} (hold : A → B) (room : ℕ) (z : B) (p : ℕ → Got A
     pub front : row ≡ padded room z (map hold read)
     pub whole : many count p from ≡ behind read (many (count - i) p at)
 
-  pub turns_none : Turns (replicate room z) from 0
+  turns_none : Turns (replicate room z) from 0
   turns_none =
       record {
         within = omega arith;
@@ -87,3 +89,18 @@ module _ {A B : Type 0} {hold : A → B} {room : ℕ} {z : B} {p : ℕ → Got A
 
     pub turns_long : length t.read ≡ count
     turns_long = t.long ∙ all
+
+-- in the first `count` places of a longer row, past which z stands too
+module _ {B : Type 0} {room : ℕ} {z : B} {row : List B} (blank : row ≡ replicate room z) {count : ℕ} (few : count ≤ room) where
+  pub turns_start : {A : Type 0} (hold : A → B) (p : ℕ → Got A) (from : ℕ) → Turns hold count z p count from (take count row) from 0
+  turns_start hold p from = rw (blank, take-replicate) (turns_none hold count z p count from)
+
+  pub turns_row : {A : Type 0} {hold : A → B} {p : ℕ → Got A} {from at i : ℕ} {part : List B} (t : Turns hold count z p count from part at i) → count ≤ i
+      → part ++ drop count row ≡ padded room z (map hold t.read)
+  turns_row {hold} {part} t done =
+      let long : length (map hold t.read) ≡ count = length-map t.read hold ∙ turns_long t done in
+      let whole : part ≡ map hold t.read = t.front ∙ rw (long, sub_self, append-nil) in
+      rw (whole, blank) (over_row room z (map hold t.read) long few)
+
+pub front_long : {B : Type 0} {room : ℕ} (z : B) {row : List B} {count : ℕ} → row ≡ replicate room z → count ≤ room → length (take count row) ≡ count
+front_long z blank few = rw (blank, take-replicate, length-replicate)

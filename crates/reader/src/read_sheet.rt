@@ -1,140 +1,109 @@
-// The sheet of bytes. The first fault met decides: everything is judged in the sequence of the bytes. A fault that a callee found is refused anew: so the compiler
-// sees at once that the sheet beside it is not used, and `bench` has no further copy of a whole sheet on its stack.
-ghost use Rattle.std.specs.Prelude.{◌≡◌, map, ◌≤◌, length};
+// The sheet of bytes. The first fault met decides: everything is judged in the sequence of the bytes.
+ghost use Rattle.std.specs.Prelude.{◌≡◌, map, ◌≤◌, length, replicate};
 ghost use Rattle.theory.specs.Lists.{padded};
+ghost use Rattle.sheet.specs.Bytes.{many};
 ghost use Rattle.sheet.specs.Sheet as meaning;
-ghost use Rattle.sheet.specs.Held.{no_contents, held_of, sheet_answer, groups_in};
+ghost use Rattle.sheet.specs.Parts.{Small};
+ghost use Rattle.sheet.specs.Held.{as_sheet, sheet_answer, groups_in, group_of, no_group, no_entry, no_contents, held_of};
 ghost use Rattle.sheet.specs.Standing.{GroupsHeld};
+ghost use Rattle.sheet.specs.declared.held.Entry.{Entry};
+ghost use Rattle.reader.specs.Rows.{RowRead, filled};
 
-use permutation::cell::wide;
-use permutation::reasons::SHEET;
+use permutation::reasons::Refusal;
 use sheet::commands::read_command;
 use sheet::groups::read_group;
-use sheet::held::{Groups, Sheet, SheetRead, no_entries, no_groups, old_zeros};
+use sheet::held::{Entry, Group, Groups, Sheet, no_entries, no_groups, old_zeros};
 use sheet::little::little;
 use sheet::zeros::read_zeros;
 
-fn refuse(number: u8) -> SheetRead
-    ensures { result ≡ record { number = number; sheet = held_of no_contents } }
-{
-    let list = no_groups();
-    let zeros = old_zeros();
-    let entries = no_entries();
-    SheetRead {
-        number,
-        sheet: Sheet {
-            groups: Groups { count: 0, list },
-            zeros,
-            count: 0,
-            entries,
-        },
-    }
-}
-
 // The number of cells of each group.
-fn sizes_of(groups: Groups) -> [usize; 64]
-    requires { GroupsHeld groups }
-    ensures { result ≡ padded 64 0 (map length (groups_in groups)) }
+fn sizes_of(groups: &Groups) -> [usize; 64]
+    requires { GroupsHeld groups.now }
+    ensures { result ≡ padded 64 0 (map length (groups_in groups.now)) }
 {
-    let count = groups.count;
     let mut sizes = [0usize; 64];
-    let mut g: usize = 0;
-    while g < count {
-        let group = groups.list[g];
+    for (g, group) in groups.list[..groups.count].iter().enumerate() {
         sizes[g] = group.n;
-        g += 1;
     }
     sizes
 }
 
-// The commands in a row, and the zeros after them, to the sheet's end.
-fn read_entries(s: &[u8], from: usize, count: usize, groups: Groups) -> SheetRead
-    requires { (count ≤ 1000) × GroupsHeld groups }
-    ensures { result ≡ sheet_answer (meaning.command_row (groups_in groups) count s.now from) }
+// The groups in a row, behind the byte of their count; gives the place after them.
+fn read_groups(s: &[u8], count: usize, list: &mut [Group; 64]) -> Result<usize, Refusal>
+    requires { (count ≤ 64) × (list.old ≡ replicate 64 no_group) }
+    ensures { RowRead group_of 64 no_group (many count (meaning.group s.now) 1) result list.new }
 {
-    let sizes = sizes_of(groups);
-    let total = groups.count;
-    let mut entries = no_entries();
-    let mut at = from;
-    let mut i: usize = 0;
-    while i < count {
-        let found = read_command(s, at, &sizes[..total]);
-        if found.number != 0 {
-            return refuse(found.number);
-        }
-        let entry = found.entry;
-        entries[i] = entry;
-        at = found.next;
-        i += 1;
-    }
-    let last = read_zeros(s, at, total);
-    if last.number != 0 {
-        return refuse(last.number);
-    }
-    let zeros = last.zeros;
-    SheetRead {
-        number: 0,
-        sheet: Sheet {
-            groups,
-            zeros,
-            count,
-            entries,
-        },
-    }
-}
-
-// The commands after the groups.
-fn read_commands(s: &[u8], at: usize, groups: Groups) -> SheetRead
-    requires { GroupsHeld groups }
-    ensures { result ≡ sheet_answer (meaning.commands (groups_in groups) s.now at) }
-{
-    if s.len() <= at {
-        return refuse(SHEET);
-    }
-    if s.len() - at < 2 {
-        return refuse(SHEET);
-    }
-    let count = little(s, at, 2) as usize;
-    if 1000 < count {
-        return refuse(SHEET);
-    }
-    let rest = read_entries(s, at + 2, count, groups);
-    if rest.number != 0 {
-        return refuse(rest.number);
-    }
-    rest
-}
-
-#[tactic(auto, using(crate::proofs::Refused::few_refused))]
-pub fn read_sheet(bytes: &[u8]) -> SheetRead
-    ensures { result ≡ sheet_answer (meaning.sheet bytes.now) }
-{
-    if bytes.len() == 0 {
-        return refuse(SHEET);
-    }
-    let count = wide(bytes[0]);
-    if count < 1 {
-        return refuse(SHEET);
-    }
-    if 64 < count {
-        return refuse(SHEET);
-    }
-    let mut list = no_groups();
     let mut at: usize = 1;
-    let mut i: usize = 0;
-    while i < count {
-        let found = read_group(bytes, at);
-        if found.number != 0 {
-            return refuse(found.number);
-        }
-        let group = found.group;
-        list[i] = group;
-        at = found.next;
-        i += 1;
+    for place in &mut list[..count] {
+        let (group, next) = read_group(s, at)?;
+        *place = group;
+        at = next;
     }
-    let rest = read_commands(bytes, at, Groups { count, list });
-    if rest.number != 0 {
-        return refuse(rest.number);
+    Ok(at)
+}
+
+// The commands in a row; gives the place after them. A common form with `read_groups` would take the reader of a part, and ask of it what both contracts say.
+fn read_entries(
+    s: &[u8],
+    from: usize,
+    count: usize,
+    sizes: &[usize],
+    entries: &mut [Entry; 1000],
+) -> Result<usize, Refusal>
+    requires { (count ≤ 1000) × Small sizes.now × (entries.old ≡ replicate 1000 no_entry) }
+    ensures { RowRead (λ (e : Entry). e) 1000 no_entry (many count (meaning.command sizes.now s.now) from) result entries.new }
+{
+    let mut at = from;
+    for entry in &mut entries[..count] {
+        let (command, next) = read_command(s, at, sizes)?;
+        *entry = command;
+        at = next;
     }
-    rest
+    Ok(at)
+}
+
+// A blank sheet is filled where it stands.
+fn read_into(bytes: &[u8], sheet: &mut Sheet) -> Result<(), Refusal>
+    requires { sheet.old ≡ held_of no_contents }
+    ensures { as_sheet (filled result sheet.new) ≡ sheet_answer (meaning.sheet bytes.now) }
+{
+    let [first, ..] = bytes else {
+        return Err(Refusal::Sheet);
+    };
+    let total = usize::from(*first);
+    if !(1..=64).contains(&total) {
+        return Err(Refusal::Sheet);
+    }
+    let at = read_groups(bytes, total, &mut sheet.groups.list)?;
+    sheet.groups.count = total;
+    if bytes.len().saturating_sub(at) < 2 {
+        return Err(Refusal::Sheet);
+    }
+    let count = little(bytes, at, 2) as usize;
+    if 1000 < count {
+        return Err(Refusal::Sheet);
+    }
+    let sizes = sizes_of(&sheet.groups);
+    let last = read_entries(bytes, at + 2, count, &sizes[..total], &mut sheet.entries)?;
+    sheet.count = count;
+    let zeros = read_zeros(bytes, last, total)?;
+    sheet.zeros = zeros;
+    Ok(())
+}
+
+// It is filled in place: a sheet that goes from hand to hand by value costs the stack a copy each time.
+pub fn read_sheet(bytes: &[u8]) -> Result<Sheet, Refusal>
+    ensures { as_sheet result ≡ sheet_answer (meaning.sheet bytes.now) }
+{
+    let mut sheet = Sheet {
+        groups: Groups {
+            count: 0,
+            list: no_groups(),
+        },
+        zeros: old_zeros(),
+        count: 0,
+        entries: no_entries(),
+    };
+    read_into(bytes, &mut sheet)?;
+    Ok(sheet)
 }

@@ -1,52 +1,39 @@
-// The jobs on bands, each a cell's lowest and highest level: what each gives, its number first.
-ghost use Rattle.std.specs.Prelude.{◌≤◌};
-
-use super::job_names::READ_BANDS;
-use super::level_jobs::decoded;
-use super::numbers::{KEPT, Numbers, levels_from};
-use super::text::{Text, permuted};
+// The jobs on bands, each a cell's lowest and highest level.
+use super::answers::{Answer, tell_number};
+use super::numbers::Numbers;
+use super::text::Text;
 use bands::read::read_bands;
 use bands::read_symbol::read_symbol_bands;
+use permutation::answers::Permuted;
+use std::fmt::{Error, Result};
 
-// m is the line's first number: for a symbol, how many there are.
-fn on_lists(text: &mut Text, at: usize, job: u8, m: u64, lowest: &[u16], highest: &[u16]) -> usize {
-    if job == READ_BANDS {
-        return permuted(text, at, read_bands(lowest, highest));
+// How many lowest levels there can be.
+const MOST: usize = 62;
+
+// The lowest levels, n of them, and the highest.
+fn parts(levels: &[u16], n: usize) -> std::result::Result<(&[u16], &[u16]), Error> {
+    if MOST < n {
+        return Err(Error);
     }
-    decoded(text, at, read_symbol_bands(lowest, highest, m))
+    levels.split_at_checked(n).ok_or(Error)
 }
 
-// How many numbers stand before the count of the lowest levels.
-fn before(job: u8) -> usize
-    ensures { result ≤ 1 }
-{
-    if job == READ_BANDS { 0 } else { 1 }
+// How many lowest levels; these; then the highest.
+pub fn on_read_bands(numbers: &Numbers, text: &mut Text) -> Result {
+    let n = numbers.given().length();
+    numbers.on_levels(1, |levels| {
+        let (lowest, highest) = parts(levels, n)?;
+        Permuted::from(read_bands(lowest, highest)).tell(text)
+    })
 }
 
-// For a symbol, how many there are; how many lowest levels; these; then the highest.
-pub fn on_bands(text: &mut Text, at: usize, job: u8, numbers: &Numbers, count: usize) -> usize {
-    let counted = before(job);
-    let n = numbers[counted] as usize;
-    if 62 < n {
-        return at;
-    }
-    if KEPT < count {
-        return at;
-    }
-    let first = counted + 1;
-    let middle = first + n;
-    if count < middle {
-        return at;
-    }
-    // a row for each list: the borrow checker does not cover two parts of one row that are lent to one call
-    let lowest = levels_from(numbers);
-    let highest = levels_from(numbers);
-    on_lists(
-        text,
-        at,
-        job,
-        numbers[0],
-        &lowest[first..middle],
-        &highest[middle..count],
-    )
+// How many symbols there are, and bands as above.
+pub fn on_read_symbol_bands(numbers: &Numbers, text: &mut Text) -> Result {
+    let mut given = numbers.given();
+    let m = given.number();
+    let n = given.length();
+    numbers.on_levels(2, |levels| {
+        let (lowest, highest) = parts(levels, n)?;
+        tell_number(read_symbol_bands(lowest, highest, m), text)
+    })
 }

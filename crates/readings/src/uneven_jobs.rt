@@ -1,81 +1,44 @@
-// Symbols by weights: what each job gives, its number first, and the lent levels as it left them.
-ghost use Rattle.std.specs.Prelude.{◌≤◌};
-
-use super::job_names::READ_UNEVEN;
-use super::level_jobs::{decoded, left};
-use super::numbers::{KEPT, Numbers, levels_from};
-use super::rewriting_jobs::prefixed;
+// Symbols by weights: what each job answers, and the lent levels as it left them.
+use super::answers::{Answer, tell_number};
+use super::level_jobs::left;
+use super::numbers::Numbers;
 use super::text::Text;
+use std::fmt::{Error, Result};
+use symbols::answers::Prefixed;
 use uneven::prefix_uneven::prefix_uneven;
 use uneven::read_uneven::read_uneven;
 use uneven::store_uneven::store_uneven;
 
 // A symbol, how many there are, n, and the weights.
-pub fn on_prefix_uneven(text: &mut Text, at: usize, numbers: &Numbers, count: usize) -> usize {
-    if count < 3 {
-        return at;
-    }
-    if KEPT < count {
-        return at;
-    }
-    let weights = levels_from(numbers);
-    let answer = prefix_uneven(
-        numbers[2] as usize,
-        &weights[3..count],
-        numbers[1],
-        numbers[0],
-    );
-    prefixed(text, at, answer)
+pub fn on_prefix_uneven(numbers: &Numbers, text: &mut Text) -> Result {
+    let mut given = numbers.given();
+    let symbol = given.number();
+    let m = given.number();
+    let n = given.length();
+    numbers.on_levels(3, |weights| {
+        Prefixed::from(prefix_uneven(n, weights, m, symbol)).tell(text)
+    })
 }
 
-// a and b are the line's first two numbers: for a store the symbol, and how many there are.
-fn on_lists(
-    text: &mut Text,
-    at: usize,
-    job: u8,
-    a: u64,
-    b: u64,
-    levels: &mut [u16],
-    weights: &[u16],
-) -> usize {
-    if job == READ_UNEVEN {
-        return decoded(text, at, read_uneven(levels, weights, a));
-    }
-    let answer = store_uneven(levels, weights, b, a);
-    left(text, at, answer, levels)
+// A symbol; how many there are; how many levels; these; then the weights.
+pub fn on_store_uneven(numbers: &Numbers, text: &mut Text) -> Result {
+    let mut given = numbers.given();
+    let symbol = given.number();
+    let m = given.number();
+    let n = given.length();
+    numbers.on_levels(3, |lent| {
+        let (levels, weights) = lent.split_at_mut_checked(n).ok_or(Error)?;
+        left(store_uneven(levels, weights, m, symbol), levels, text)
+    })
 }
 
-// How many numbers stand before the count of levels.
-fn before(job: u8) -> usize
-    ensures { result ≤ 2 }
-{
-    if job == READ_UNEVEN { 1 } else { 2 }
-}
-
-// For a store the symbol; how many symbols there are; how many levels; these; then the weights.
-pub fn on_uneven(text: &mut Text, at: usize, job: u8, numbers: &Numbers, count: usize) -> usize {
-    let counted = before(job);
-    let n = numbers[counted] as usize;
-    if KEPT < n {
-        return at;
-    }
-    if KEPT < count {
-        return at;
-    }
-    let first = counted + 1;
-    let middle = first + n;
-    if count < middle {
-        return at;
-    }
-    let mut levels = levels_from(numbers);
-    let weights = levels_from(numbers);
-    on_lists(
-        text,
-        at,
-        job,
-        numbers[0],
-        numbers[1],
-        &mut levels[first..middle],
-        &weights[middle..count],
-    )
+// How many symbols there are; how many levels; these; then the weights.
+pub fn on_read_uneven(numbers: &Numbers, text: &mut Text) -> Result {
+    let mut given = numbers.given();
+    let m = given.number();
+    let n = given.length();
+    numbers.on_levels(2, |lent| {
+        let (levels, weights) = lent.split_at_checked(n).ok_or(Error)?;
+        tell_number(read_uneven(levels, weights, m), text)
+    })
 }

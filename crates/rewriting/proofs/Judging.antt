@@ -2,10 +2,9 @@
 use mathlib.Core.Path.{◌≡◌}
 use mathlib.Core.List.{List}
 use Prim.Native.Nat.{ℕ, ◌-◌, ◌≤◌, ◌<◌}
-use native.Mathlib.Omega.{arith}
 use borrow.Author.Tests.{eq-eqb, ne_eqb, le-leb, lt-leb}
 use lib.ListN.{length}
-use Rattle.theory.specs.Reasons.{size, fit}
+use Rattle.theory.specs.Reasons.{fit}
 use Rattle.theory.specs.Refusal.{or_else, size_of}
 use Rattle.theory.specs.Levels.{read_number}
 use Rattle.theory.proofs.Refusal.{or_else_refused}
@@ -14,14 +13,14 @@ use Rattle.permutation.specs.declared.answers.Permutation.{Permutation}
 use Rattle.rewriting.specs.Answers.{target_number}
 
 module _ (L : List ℕ) (target : Permutation) (room : ℕ) where
-  pub judge_group : size ≡ size_of (length L) → size ≡ target_number L target room
+  pub judge_group : {number : ℕ} → number ≡ size_of (length L) → (number ≡ 0 → ⊥) → number ≡ target_number L target room
   unfolding target_number
-  judge_group e = or_else_refused (size_of (length L)) _ e (λ z. omega arith)
+  judge_group e ne = or_else_refused (size_of (length L)) _ e ne
 
   module _ (group : size_of (length L) ≡ 0) where
-    pub judge_size : size ≡ size_of target.n → size ≡ target_number L target room
+    pub judge_size : {number : ℕ} → number ≡ size_of target.n → (number ≡ 0 → ⊥) → number ≡ target_number L target room
     unfolding target_number
-    judge_size e = rw group (or_else_refused (size_of target.n) _ e (λ z. omega arith))
+    judge_size e ne = rw group (or_else_refused (size_of target.n) _ e ne)
 
     module _ (sized : size_of target.n ≡ 0) where
       pub judge_other : (target.n ≡ length L → ⊥) → fit ≡ target_number L target room

@@ -15,14 +15,15 @@ use Rattle.theory.proofs.Spent.{sum_fits, step_sum, spending}
 use Rattle.theory.proofs.Demand3.{demand3}
 use Rattle.ranking.specs.Answers.{rank_answer}
 use Rattle.permutation.specs.declared.answers.Permutation.{Permutation}
+use Rattle.permutation.specs.declared.answers.Permuted.{Permuted}
 use Rattle.ranking.specs.declared.answers.Ranked.{Ranked}
 use Rattle.ranking.specs.declared.zero.Zero.{Zero}
 use Rattle.ranking.proofs.Values.{ranked_record}
 use Rattle.charge.specs.Answers.{read_answer}
-use Rattle.theory.proofs.Refusal.{or_else_done, Readable, readable, ceiling_room}
+use Rattle.charge.proofs.ReadLevels.{number_is}
+use Rattle.theory.proofs.Refusal.{or_else_done, Readable, readable, read_done, ceiling_room}
 use Rattle.runs.specs.Steps.{push_counts, count_in, RunOf}
-use Rattle.runs.specs.LevelSteps.{levels_after, value_read, widest, largest_raise, no_run, level_run_answer, LevelsOf}
-use Rattle.runs.specs.declared.answers.RanLevels.{RanLevels}
+use Rattle.runs.specs.LevelSteps.{RanLevels, levels_after, value_read, widest, largest_raise, no_run, level_run_answer, LevelsOf}
 use Rattle.runs.proofs.PushCounts.{Tallied, tallied, counts_none, counts_at}
 use Rattle.runs.proofs.Running.{run_of}
 use Rattle.runs.proofs.OneStep.{reading_record}
@@ -145,52 +146,64 @@ module _ (L : List ℕ) (k : ℕ) (g : call_number k L ≡ 0) where
   largest_bound gapless (suc j) = omega (arith, largest_bound gapless j, d.jumps L refl gapless j)
 
   -- ---- all k steps were done; p is read from the levels, and r is its rank
-  module _ (levels counts : List ℕ) (charge wide large : ℕ) (v : RunningLevels L k levels counts charge wide large) (p : Permutation) (r : ℕ)
-      (stands : p ≡ (read_answer levels).permutation) (ranks : r ≡ (rank_answer p).rank) where
+  module _ (levels counts : List ℕ) (charge wide large : ℕ) (v : RunningLevels L k levels counts charge wide large) where
     still : Readable levels
     still = rw v.levels_are
         (let size = long k in
         record { few = omega (arith, few); many = omega (arith, many); untied = reads_untied (reads_after k) })
 
-    is : r ≡ rank (length L) (permutation_of levels)
-    is =
-        ranks ∙ ap (λ (q : Permutation). (rank_answer q).rank) (stands ∙ reading_record still)
-        ∙ ap (λ (a : Ranked). a.rank) (ranked_record (length levels) (permutation_of levels) still.few still.many (permutation_of_permutation levels))
-        ∙ ap (λ (n : ℕ). rank n (permutation_of levels)) (levels_long k levels counts charge wide large v)
+    -- neither the reading nor the rank is refused
+    pub read_given : {a : Permuted} → a ≡ read_answer levels → a.number ≡ 0
+    read_given e = number_is levels e ∙ read_done still
 
-    counted_up : levels ≡ count_up k L
-    counted_up = v.levels_are ∙ sym (count_up_run (length L) few k L (permutation_of L) refl reads)
+    ranked : (p : Permutation) → p ≡ (read_answer levels).permutation
+        → rank_answer p ≡ record { number = 0; rank = rank (length levels) (permutation_of levels) }
+    ranked p stands =
+        ap rank_answer (stands ∙ reading_record still)
+        ∙ ranked_record (length levels) (permutation_of levels) still.few still.many (permutation_of_permutation levels)
 
-    pub levels_left : levels ≡ call_levels k L
-    levels_left = counted_up ∙ sym ((calling k L).counted g).1
+    pub rank_given : (p : Permutation) → p ≡ (read_answer levels).permutation → {a : Ranked} → a ≡ rank_answer p → a.number ≡ 0
+    rank_given p stands e = ap (λ (a : Ranked). a.number) (e ∙ ranked p stands)
 
-    abbrev answer : RanLevels
-    answer = record { number = 0; pushes = k; charge = charge; counts = counts; widest = wide; largest = large; rank = r }
+    module _ (p : Permutation) (r : ℕ) (stands : p ≡ (read_answer levels).permutation) (ranks : r ≡ (rank_answer p).rank) where
+      is : r ≡ rank (length L) (permutation_of levels)
+      is =
+          ranks ∙ ap (λ (a : Ranked). a.rank) (ranked p stands)
+          ∙ ap (λ (n : ℕ). rank n (permutation_of levels)) (levels_long k levels counts charge wide large v)
 
-    charge_is : charge ≡ call_charge k L
-    charge_is = omega (arith, v.spent, ap level_sum levels_left, (spending L).call k)
+      counted_up : levels ≡ count_up k L
+      counted_up = v.levels_are ∙ sym (count_up_run (length L) few k L (permutation_of L) refl reads)
 
-    pub ran_levels_left : answer ≡ level_run_answer L k
-    unfolding level_run_answer
-    ran_levels_left = rw (charge_is, g, ((calling k L).counted g).0, v.counted, v.widest_is, v.largest_is, is, counted_up)
+      pub levels_left : levels ≡ call_levels k L
+      levels_left = counted_up ∙ sym ((calling k L).counted g).1
 
-    ran : RunOf (length L) (permutation_of L) k (permutation_of levels) r (count_in counts)
-    ran =
-        run_of (length L) few many (permutation_of L) start k (permutation_of levels) r (count_in counts)
-        (ap permutation_of v.levels_are ∙ reads_is (reads_after k)) is (counts_at (length L) few many (permutation_of L) k counts v.counted)
+      abbrev answer : RanLevels
+      answer = record { number = 0; pushes = k; charge = charge; counts = counts; widest = wide; largest = large; rank = r }
 
-    pub levels_of_lem : LevelsOf L k levels answer
-    levels_of_lem = record {
-      pushes = refl;
-      levels = counted_up;
-      stepped = v.levels_are;
-      highest_level = ap highest v.levels_are ∙ highest_after k;
-      start = start;
-      run = ran;
-      value_read_lem = run_values (readable past.0) still ran;
-      gap = λ gapless. rw v.widest_is (widest_bound gapless k);
-      jumps = λ gapless. rw v.largest_is (largest_bound gapless k);
-    }
+      charge_is : charge ≡ call_charge k L
+      charge_is = omega (arith, v.spent, ap level_sum levels_left, (spending L).call k)
+
+      pub ran_levels_left : answer ≡ level_run_answer L k
+      unfolding level_run_answer
+      ran_levels_left = rw (charge_is, g, ((calling k L).counted g).0, v.counted, v.widest_is, v.largest_is, is, counted_up)
+
+      ran : RunOf (length L) (permutation_of L) k (permutation_of levels) r (count_in counts)
+      ran =
+          run_of (length L) few many (permutation_of L) start k (permutation_of levels) r (count_in counts)
+          (ap permutation_of v.levels_are ∙ reads_is (reads_after k)) is (counts_at (length L) few many (permutation_of L) k counts v.counted)
+
+      pub levels_of_lem : LevelsOf L k levels answer
+      levels_of_lem = record {
+        pushes = refl;
+        levels = counted_up;
+        stepped = v.levels_are;
+        highest_level = ap highest v.levels_are ∙ highest_after k;
+        start = start;
+        run = ran;
+        value_read_lem = run_values (readable past.0) still ran;
+        gap = λ gapless. rw v.widest_is (widest_bound gapless k);
+        jumps = λ gapless. rw v.largest_is (largest_bound gapless k);
+      }
 
 -- a run that is refused
 pub ran_levels_refused : (L : List ℕ) (k : ℕ) {a : RanLevels} {number : ℕ} → a ≡ no_run number → number ≡ call_number k L → (number ≡ 0 → ⊥)

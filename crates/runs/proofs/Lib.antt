@@ -6,3 +6,4 @@ pub mod Running
 pub mod OneStep
 pub mod LevelRunning
 pub mod Calling
+pub mod Given

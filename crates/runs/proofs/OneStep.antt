@@ -11,12 +11,14 @@ use Rattle.theory.proofs.Reading.{pushed_length, pushed_jump}
 use Rattle.permutation.specs.Records.{record_of}
 use Rattle.permutation.specs.Answers.{successor_answer}
 use Rattle.permutation.specs.declared.answers.Permutation.{Permutation}
+use Rattle.permutation.specs.declared.answers.Permuted.{Permuted}
 use Rattle.permutation.specs.declared.answers.Placed.{Placed}
 use Rattle.permutation.proofs.Answering.{placed_record}
 use Rattle.charge.specs.Answers.{read_answer, place_number, place_answer, place_levels}
 use Rattle.charge.specs.declared.answers.Pushes.{Pushes}
 use Rattle.theory.proofs.Refusal.{given_done, or_else_done, Readable, read_done, readable, ceiling_room}
 use Rattle.charge.proofs.Numbers.{place_done}
+use Rattle.charge.proofs.ReadLevels.{number_is}
 use Rattle.charge.proofs.Pushing.{PlacedCell, placed_cell}
 
 -- the permutation that is read from levels which have one
@@ -42,6 +44,15 @@ module _ (L : List ℕ) (g : call_number 1 L ≡ 0) where
   faultless : Readable L
   faultless = readable past.0
 
+  -- no job that the step asks is refused
+  pub read_given : {r : Permuted} → r ≡ read_answer L → r.number ≡ 0
+  read_given e = number_is L e ∙ past.0
+
+  pub asked_done : (p : Permutation) → p ≡ (read_answer L).permutation → {a : Placed} → a ≡ successor_answer p → a.number ≡ 0
+  asked_done p stands e =
+      ap (λ (a : Placed). a.number)
+      (e ∙ ap successor_answer (stands ∙ reading_record faultless) ∙ placed_record (length L) (permutation_of L) faultless.few faultless.many (permutation_of_permutation L))
+
   -- p is what was read, and this place is what its successor answers
   module _ (p : Permutation) (place : ℕ) (stands : p ≡ (read_answer L).permutation) (asked : place ≡ (successor_answer p).place) where
     standing : p ≡ record_of (permutation_of L)
@@ -56,6 +67,13 @@ module _ (L : List ℕ) (g : call_number 1 L ≡ 0) where
     place_bounds =
         let b = successor_bounds (length L) (permutation_of L) faultless.few in
         rw place_is (b.0, b.1, omega (arith, b.1, faultless.many))
+
+    done : place_number L place ≡ 0
+    done = place_done L place faultless place_bounds.0 place_bounds.1 (ceiling_room L 1 past.1)
+
+    pub pushed_done : {a : Pushes} → a ≡ place_answer L place → a.number ≡ 0
+    unfolding place_answer
+    pushed_done e = ap (λ (a : Pushes). a.number) e ∙ done
 
     -- the cell that stands there
     module _ (cell : ℕ) (at : cell ≡ get_or p.cells (place - 1) 0) where
@@ -72,9 +90,6 @@ module _ (L : List ℕ) (g : call_number 1 L ≡ 0) where
 
       -- its push is done
       module _ (answer : Pushes) (after : List ℕ) (answered : answer ≡ place_answer L place) (pushed : after ≡ place_levels L place) where
-        done : place_number L place ≡ 0
-        done = place_done L place faultless place_bounds.0 place_bounds.1 (ceiling_room L 1 past.1)
-
         after_is : after ≡ push_level (next_cell L) L
         unfolding place_levels
         after_is =

@@ -1,6 +1,7 @@
 -- A run of steps: what holds when some of them were done, and demand 3 of the whole. Assumes nothing.
 use Rattle.std.proofs.Common.{◌≡◌, ℕ, suc, ◌+◌, ◌-◌, ◌%◌, ◌^◌, ◌≤◌, List, length, get_or, set, replicate, sym, refl, ap, ◌∙◌, ap₂, add-one, arith, ne_eqb}
 use Rattle.theory.specs.Permutation.{IsPermutation, row, top}
+use Rattle.theory.specs.Push.{push}
 use Rattle.theory.specs.Successor.{successor, step}
 use Rattle.theory.specs.Rank.{rank}
 use Rattle.theory.specs.Factorial.{factorial}
@@ -23,8 +24,7 @@ use Rattle.permutation.proofs.Records.{Sound}
 use Rattle.permutation.proofs.Answering.{placed_record, pushed_record, list_record}
 use Rattle.ranking.specs.Zeros.{zero_permutation}
 use Rattle.ranking.proofs.Values.{ranked_record, valued_record}
-use Rattle.runs.specs.Steps.{push_counts, run_answer, count_in, RunOf, TestsOf}
-use Rattle.runs.specs.declared.answers.Ran.{Ran}
+use Rattle.runs.specs.Steps.{Ran, push_counts, run_answer, count_in, RunOf, TestsOf}
 use Rattle.runs.proofs.PushCounts.{Tallied, tallied, counts_none, counts_at}
 use Rattle.runs.proofs.TotalTests.{total_more, tests_of}
 
@@ -80,6 +80,13 @@ module _ (p : Permutation) (s : Sound p) where
     next : successor_answer current ≡ placed_if 0 p.n (after done)
     next = ap successor_answer v.at ∙ placed_record p.n (after done) s.few s.many (orders done)
 
+    -- nor is a step's job refused
+    pub asked_done : {a : Placed} → a ≡ successor_answer current → a.number ≡ 0
+    asked_done e = ap (λ (a : Placed). a.number) (e ∙ next)
+
+    pub ranked_done : {a : Ranked} → a ≡ rank_answer current → a.number ≡ 0
+    ranked_done e = ap (λ (a : Ranked). a.number) (e ∙ ap rank_answer v.at ∙ ranked_record p.n (after done) s.few s.many (orders done))
+
     module _ (placed : Placed) (q : placed ≡ successor_answer current) where
       abbrev place : ℕ
       place = placed.place
@@ -90,13 +97,18 @@ module _ (p : Permutation) (s : Sound p) where
       asked : placed.tests ≡ tests p.n (after done)
       asked = ap (λ (a : Placed). a.tests) (q ∙ next)
 
+      next_push : push_answer current place ≡ record { number = 0; permutation = record_of (push (successor p.n (after done)) (after done)) }
+      next_push =
+          let b = (stepping p.n s.few).place (after done) in
+          ap₂ push_answer v.at next_place ∙ pushed_record p.n (after done) s.few s.many (orders done) _ b.0 b.1
+
+      pub pushed_done : {a : Permuted} → a ≡ push_answer current place → a.number ≡ 0
+      pushed_done e = ap (λ (a : Permuted). a.number) (e ∙ next_push)
+
       -- the record after one more step
       next_record : (push_answer current place).permutation ≡ record_of (after (suc done))
       unfolding steps step
-      next_record =
-          let b = (stepping p.n s.few).place (after done) in
-          ap₂ (λ (c : Permutation) (i : ℕ). (push_answer c i).permutation) v.at next_place
-          ∙ ap (λ (a : Permuted). a.permutation) (pushed_record p.n (after done) s.few s.many (orders done) _ b.0 b.1)
+      next_record = ap (λ (a : Permuted). a.permutation) next_push
 
       module _ (current' : Permutation) (e : current' ≡ (push_answer current place).permutation) where
         at' : current' ≡ record_of (after (suc done))

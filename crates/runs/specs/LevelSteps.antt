@@ -1,5 +1,6 @@
 -- A run of steps on levels: its answer, and demand 3 of it. Assumes nothing.
-use Rattle.std.specs.Prelude.{◌≡◌, ℕ, zero, suc, ◌+◌, ◌%◌, ◌≤◌, max, List, [], length}
+use Rattle.std.specs.Prelude.{◌≡◌, ℕ, zero, suc, ◌+◌, ◌%◌, ◌≤◌, max, List, [], length, Result, Ok, Err}
+use Rattle.theory.specs.Reasons.{done}
 use Rattle.theory.specs.Factorial.{factorial}
 use Rattle.theory.specs.Permutation.{IsPermutation, row, top}
 use Rattle.theory.specs.Rank.{rank}
@@ -13,7 +14,19 @@ use Rattle.ranking.specs.declared.answers.Valued.{Valued}
 use Rattle.ranking.specs.declared.zero.Zero.{Zero}
 use Rattle.charge.specs.Answers.{read_answer}
 use Rattle.runs.specs.Steps.{push_counts, count_in, RunOf}
-use Rattle.runs.specs.declared.answers.RanLevels.{RanLevels}
+use Rattle.permutation.specs.Refusals.{number_of}
+use Rattle.permutation.specs.declared.reasons.Refusal.{Refusal}
+use Rattle.runs.specs.declared.answers.RanLevels as given_answer
+
+-- what a run on levels answers: its number and, beside another than 0, zeros
+pub record RanLevels : Type 0 where
+  pub number : ℕ
+  pub pushes : ℕ
+  pub charge : ℕ
+  pub counts : List ℕ
+  pub widest : ℕ
+  pub largest : ℕ
+  pub rank : ℕ
 
 -- the levels after k steps from L, "each push made on the levels too"
 abbrev pub levels_after : ℕ → List ℕ → List ℕ
@@ -36,6 +49,18 @@ largest_raise (suc k) L = max (largest_raise k L) (jump (top (steps (length L) (
 -- zeros beside the number of a refusal
 abbrev pub no_run : ℕ → RanLevels
 no_run number = record { number = number; pushes = 0; charge = 0; counts = row []; widest = 0; largest = 0; rank = 0 }
+
+abbrev pub as_ran_levels : Result given_answer.RanLevels Refusal → RanLevels
+as_ran_levels (Ok a) = record {
+  number = done;
+  pushes = a.pushes;
+  charge = a.charge;
+  counts = a.counts;
+  widest = a.widest;
+  largest = a.largest;
+  rank = a.rank;
+}
+as_ran_levels (Err e) = no_run (number_of e)
 
 -- refused as a count-up call by k is
 unfoldable pub level_run_answer : List ℕ → ℕ → RanLevels

@@ -1,5 +1,6 @@
 -- A run of steps: its answer, and demand 3 of it. Assumes nothing.
-use Rattle.std.specs.Prelude.{◌≡◌, ℕ, ◌+◌, ◌-◌, ◌%◌, ◌^◌, ◌<◌, ◌≤◌, ◌⊎◌, List, [], map, ◌≢◌, slice_index}
+use Rattle.std.specs.Prelude.{◌≡◌, ℕ, ◌+◌, ◌-◌, ◌%◌, ◌^◌, ◌<◌, ◌≤◌, ◌⊎◌, List, [], map, ◌≢◌, slice_index, Result, Ok, Err}
+use Rattle.theory.specs.Reasons.{done}
 use Rattle.theory.specs.Lists.{names}
 use Rattle.theory.specs.Factorial.{factorial}
 use Rattle.theory.specs.Permutation.{IsPermutation, row}
@@ -12,7 +13,22 @@ use Rattle.theory.specs.Refusal.{given}
 use Rattle.permutation.specs.declared.answers.Permutation.{Permutation}
 use Rattle.ranking.specs.Answers.{value_answer}
 use Rattle.ranking.specs.declared.zero.Zero.{Zero}
-use Rattle.runs.specs.declared.answers.Ran.{Ran}
+use Rattle.permutation.specs.Refusals.{number_of}
+use Rattle.permutation.specs.Answers.{no_record}
+use Rattle.permutation.specs.declared.reasons.Refusal.{Refusal}
+use Rattle.runs.specs.declared.answers.Ran as given_answer
+
+-- what a run answers: its number and, beside another than 0, zeros
+pub record Ran : Type 0 where
+  pub number : ℕ
+  pub permutation : Permutation
+  pub rank : ℕ
+  pub counts : List ℕ
+  pub tests : ℕ
+
+abbrev pub as_ran : Result given_answer.Ran Refusal → Ran
+as_ran (Ok a) = record { number = done; permutation = a.permutation; rank = a.rank; counts = a.counts; tests = a.tests }
+as_ran (Err e) = record { number = number_of e; permutation = no_record; rank = 0; counts = row []; tests = 0 }
 
 -- the push counts of the cells 1 to n after k steps
 abbrev pub push_counts : ℕ → ℕ → List ℕ → List ℕ

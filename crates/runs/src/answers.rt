@@ -1,9 +1,8 @@
-// What runs of steps answer: a number first, 0 where the run is done.
+// What runs of steps give.
 use permutation::answers::Permutation;
 
-#[derive(Clone, Copy)]
+#[derive(Clone, Copy, Debug, PartialEq, Eq)]
 pub struct Ran {
-    pub number: u8,
     pub permutation: Permutation,
     // its rank
     pub rank: u64,
@@ -14,9 +13,8 @@ pub struct Ran {
 }
 
 // A run on levels.
-#[derive(Clone, Copy)]
+#[derive(Clone, Copy, Debug, PartialEq, Eq)]
 pub struct RanLevels {
-    pub number: u8,
     pub pushes: u32,
     // the jumps of these pushes, added up
     pub charge: u32,

@@ -15,7 +15,7 @@ use Rattle.sheet.specs.ZeroSection.{rising, named_groups, section, zeros_of, zer
 use Rattle.sheet.specs.Sheet.{group, entry, count_at, rewrite_at, store_at, change_at, body_at, command, command_row, commands, sheet}
 use Rattle.sheet.specs.Parts.{numbers}
 use Rattle.sheet.specs.declared.held.Action.TheVariants.{Count, Rewrite, Store}
-use Rattle.sheet.specs.declared.held.GroupZero.{GroupZero}
+use Rattle.ranking.specs.declared.zero.Zero.{Zero}
 use Rattle.sheet.specs.declared.held.Entry.{Entry}
 use Rattle.sheet.proofs.ByteNumbers.{number_there, number_short, byte_there, row_there, row_short}
 
@@ -111,12 +111,12 @@ module _ (kind g n : ℕ) (s : List ℕ) (at : ℕ) where
 -- ---- a command
 
 module _ (sizes s : List ℕ) (at : ℕ) where
-  pub command_end : length s ≤ at → command sizes s at ≡ fault ill_formed
+  command_end : length s ≤ at → command sizes s at ≡ fault ill_formed
   unfolding command after
   command_end h = rw (number_short s 1 at (omega arith))
 
   module _ (here : at < length s) where
-    pub command_half : length s ≤ at + 1 → command sizes s at ≡ fault ill_formed
+    command_half : length s ≤ at + 1 → command sizes s at ≡ fault ill_formed
     unfolding command after
     command_half h = rw (byte_there s at here, number_short s 1 (at + 1) (omega arith))
 
@@ -129,6 +129,10 @@ module _ (sizes s : List ℕ) (at : ℕ) where
           → command sizes s at ≡ body_at (get_or s at 0) (get_or s (at + 1) 0) (get_or sizes (get_or s (at + 1) 0) 0) s (at + 1 + 1)
       unfolding command after check
       command_body h = rw (byte_there s at here, byte_there s (at + 1) there, lt-ltb _ _ h)
+
+  -- without a byte for the kind and one for the group
+  pub command_short : length s < at + 2 → command sizes s at ≡ fault ill_formed
+  command_short h = by_le (length s) at (λ none. command_end none) (λ kind. command_half kind (omega arith))
 
 -- ---- the zeros
 
@@ -186,7 +190,7 @@ module _ (groups : List (List ℕ)) (s : List ℕ) (at : ℕ) where
       unfolding command_row after
       row_bad f bad = rw (good, bad)
 
-      pub row_ends : (zeros : List GroupZero) (end : ℕ) → zeros_at (length groups) s next ≡ got zeros end
+      pub row_ends : (zeros : List Zero) (end : ℕ) → zeros_at (length groups) s next ≡ got zeros end
           → command_row groups n s at ≡ got (record { groups = groups; zeros = zeros; entries = entries }) end
       unfolding command_row after
       row_ends zeros end read = rw (good, read)

@@ -1,8 +1,9 @@
 -- Numbers read from bytes: where the bytes are there, and where they end early. Assumes nothing.
 use mathlib.Core.Path.{◌≡◌, refl, ap, ◌∙◌}
 use mathlib.Core.List.{List}
-use Prim.Native.Nat.{ℕ, zero, suc, ◌+◌, ◌*◌, ◌≤◌, ◌<◌}
+use Prim.Native.Nat.{ℕ, zero, suc, ◌+◌, ◌-◌, ◌*◌, ◌≤◌, ◌<◌}
 use native.Mathlib.Nat.{add-zero, mul-zero, mul-suc}
+use native.Mathlib.Numerals.{add-one}
 use native.Mathlib.Omega.{arith}
 use borrow.Author.Tests.{le-leb, lt-leb}
 use lib.ListN.{length, get_or, take, drop}
@@ -58,3 +59,14 @@ module _ (s : List ℕ) where
   numbers_at k (suc n) at (suc i) h =
       let far : at + k + k * i ≡ at + k * suc i = omega (arith, mul-suc k i) in
       rw (← far) (numbers_at k n (at + k) i (omega arith))
+
+  -- single bytes are the numbers that they spell
+  bytes_numbers : (n at : ℕ) → at + n ≤ length s → take n (drop at s) ≡ numbers 1 n s at
+  unfolding numbers
+  bytes_numbers zero at h = refl
+  bytes_numbers (suc n) at h =
+      let here : at < length s = omega arith in
+      rw (byte_spelled at here, add-one at, ← bytes_numbers n (suc at) (omega arith)) (ap (take (suc n)) (drop-cons s at 0 here))
+
+  pub names_copied : (at n : ℕ) → at + n ≤ length s → take (at + n - at) (drop at s) ≡ numbers 1 n s at
+  names_copied at n h = let same : at + n - at ≡ n = omega arith in rw same (bytes_numbers n at h)

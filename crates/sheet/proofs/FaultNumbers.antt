@@ -3,12 +3,8 @@ use mathlib.Core.Path.{◌≡◌, refl, ap, sym, ◌∙◌}
 use Prim.Native.Nat.{ℕ}
 use native.Mathlib.Omega.{arith}
 use Rattle.sheet.specs.Bytes.{Fault, missized, tied, ill_formed, number_of, Got, fault, got}
-use Rattle.sheet.specs.Held.{sheet_answer}
-use Rattle.sheet.specs.Parts.{group_answer, entry_answer, zeros_answer}
-use Rattle.sheet.specs.declared.held.SheetRead.{SheetRead}
-use Rattle.sheet.specs.declared.groups.GroupRead.{GroupRead}
-use Rattle.sheet.specs.declared.commands.EntryRead.{EntryRead}
-use Rattle.sheet.specs.declared.zeros.ZerosRead.{ZerosRead}
+use Rattle.sheet.specs.Held.{SheetRead, sheet_answer}
+use Rattle.sheet.specs.Parts.{GroupRead, EntryRead, ZerosRead, group_answer, entry_answer, zeros_answer}
 
 -- no fault has the number 0
 pub fault_number : (f : Fault) → number_of f ≡ 0 → ⊥

@@ -8,14 +8,14 @@ use lib.Seq.{take_at, take-append_seam}
 use Rattle.theory.specs.Lists.{padded}
 use Rattle.theory.proofs.Padding.{padded_map_at}
 use Rattle.sheet.specs.Bytes.{got, many}
-use Rattle.sheet.specs.ZeroSection.{on_old}
+use Rattle.ranking.specs.declared.zero.Zero.TheVariants.{Old}
 use Rattle.sheet.specs.Sheet.{group, Contents}
 use Rattle.sheet.specs.Held.{group_of, no_group, groups_of, no_entry, held_of, levels_of, groups_in, contents_of}
 use Rattle.sheet.specs.Claims.{Each}
 use Rattle.sheet.specs.Standing.{GroupsHeld}
 use Rattle.sheet.specs.declared.held.Group.{Group}
 use Rattle.sheet.specs.declared.held.Groups.{Groups}
-use Rattle.sheet.specs.declared.held.GroupZero.{GroupZero}
+use Rattle.ranking.specs.declared.zero.Zero.{Zero}
 use Rattle.sheet.specs.declared.held.Entry.{Entry}
 use Rattle.sheet.specs.declared.held.Sheet.{Sheet}
 use Rattle.sheet.proofs.Inversion.{many_length}
@@ -71,7 +71,7 @@ module _ {groups : Groups} (h : GroupsHeld groups) where
   sizes_front = take_at (map length (groups_in groups)) _ groups.count (map_count length)
 
   -- the sheet that is held, from its parts
-  pub sheet_held : (zs zeros : List GroupZero) → zs ≡ padded 64 on_old zeros → (n : ℕ) (row es : List Entry) → length es ≡ n → row ≡ padded 1000 no_entry es
+  pub sheet_held : (zs zeros : List Zero) → zs ≡ padded 64 Old zeros → (n : ℕ) (row es : List Entry) → length es ≡ n → row ≡ padded 1000 no_entry es
       → ◌≡◌ {A = Sheet} (record { groups = groups; zeros = zs; count = n; entries = row }) (held_of (record { groups = groups_in groups; zeros = zeros; entries = es }))
   unfolding held_of
   sheet_held zs zeros are n row es long front = λ i. record { groups = h.held i; zeros = are i; count = sym long i; entries = front i }

@@ -11,7 +11,7 @@ use Rattle.theory.specs.Reasons.{sized}
 use Rattle.theory.specs.Levels.{tied, read_number}
 use Rattle.theory.proofs.Cases.{by_le}
 use Rattle.theory.proofs.Refusal.{readable}
-use Rattle.sheet.specs.declared.held.GroupZero.{GroupZero}
+use Rattle.ranking.specs.declared.zero.Zero.{Zero}
 use Rattle.sheet.specs.declared.held.Entry.{Entry}
 use Rattle.sheet.specs.Bytes.{got, many, number}
 use Rattle.sheet.specs.ZeroSection.{section, zeros_of, zeros_at}
@@ -66,7 +66,7 @@ command_named sizes s at e end r =
 
 -- ---- the zeros
 
-zeros_parts : (G : ℕ) (s : List ℕ) (at : ℕ) (zeros : List GroupZero) (end : ℕ) → zeros_at G s at ≡ got zeros end
+zeros_parts : (G : ℕ) (s : List ℕ) (at : ℕ) (zeros : List Zero) (end : ℕ) → zeros_at G s at ≡ got zeros end
     → (numbers : List ℕ) × (section G s at ≡ got numbers end) × (zeros ≡ zeros_of G numbers) × (end ≡ length s)
 unfolding zeros_at
 zeros_parts G s at zeros end r =

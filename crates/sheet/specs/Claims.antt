@@ -2,7 +2,7 @@
 use Rattle.std.specs.Prelude.{◌≡◌, List, [], ◌∷◌, ◌++◌, ℕ, ◌+◌, ◌≤◌, ◌<◌, length, get_or, take}
 use Rattle.theory.specs.Levels.{read_number}
 use Rattle.sheet.specs.Bytes.{got}
-use Rattle.sheet.specs.ZeroSection.{on_old}
+use Rattle.ranking.specs.declared.zero.Zero.TheVariants.{Old}
 use Rattle.sheet.specs.Sheet.{Contents, entry, sheet}
 use Rattle.sheet.specs.Held.{no_entry, held_of, contents_of}
 use Rattle.sheet.specs.declared.held.Action.TheVariants.{Count, Rewrite, Store}
@@ -32,7 +32,7 @@ example_sheet =
 abbrev pub example_contents : Contents
 example_contents = record {
   groups = (3 ∷ 1 ∷ 2 ∷ []) ∷ [];
-  zeros = on_old ∷ [];
+  zeros = Old ∷ [];
   entries = entry 0 (Count 4) [] ∷ entry 0 Rewrite (3 ∷ 1 ∷ 2 ∷ []) ∷ entry 0 (Store 3 3) [] ∷ [];
 }
 

@@ -1,16 +1,17 @@
 -- The sheet held in memory: rows of fixed length, filled from the front. Assumes nothing.
-use Rattle.std.specs.Prelude.{List, [], map, ℕ, length, take}
+use Rattle.std.specs.Prelude.{Result, List, [], map, ℕ, length, take}
 use Rattle.theory.specs.Lists.{padded}
 use Rattle.theory.specs.Permutation.{row}
+use Rattle.permutation.specs.Refusals.{number_in, given_in}
+use Rattle.permutation.specs.declared.reasons.Refusal.{Refusal}
 use Rattle.sheet.specs.Bytes.{Got, fault, got, number_of}
-use Rattle.sheet.specs.ZeroSection.{on_old}
+use Rattle.ranking.specs.declared.zero.Zero.TheVariants.{Old}
 use Rattle.sheet.specs.Sheet.{Contents, entry}
 use Rattle.sheet.specs.declared.held.Action.TheVariants.{Count}
 use Rattle.sheet.specs.declared.held.Group.{Group}
 use Rattle.sheet.specs.declared.held.Groups.{Groups}
 use Rattle.sheet.specs.declared.held.Entry.{Entry}
 use Rattle.sheet.specs.declared.held.Sheet.{Sheet}
-use Rattle.sheet.specs.declared.held.SheetRead.{SheetRead}
 
 -- a group: n and its levels by name, in a row of twenty with 0 past n
 abbrev pub group_of : List ℕ → Group
@@ -34,10 +35,18 @@ no_contents = record { groups = []; zeros = []; entries = [] }
 unfoldable pub held_of : Contents → Sheet
 held_of c = record {
   groups = groups_of c.groups;
-  zeros = padded 64 on_old c.zeros;
+  zeros = padded 64 Old c.zeros;
   count = length c.entries;
   entries = padded 1000 no_entry c.entries;
 }
+
+-- an answer as the paper gives it: a number, and a sheet
+pub record SheetRead : Type 0 where
+  pub number : ℕ
+  pub sheet : Sheet
+
+abbrev pub as_sheet : Result Sheet Refusal → SheetRead
+as_sheet r = record { number = number_in r; sheet = given_in (held_of no_contents) r }
 
 -- what `read_sheet` answers: number 0 and the sheet, or the fault's number and nothing, "0 for every other number"
 unfoldable pub sheet_answer : Got Contents → SheetRead

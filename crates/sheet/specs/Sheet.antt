@@ -7,7 +7,7 @@ use Rattle.sheet.specs.Bytes.{missized, tied, ill_formed, Got, fault, got, after
 use Rattle.sheet.specs.ZeroSection.{zeros_at}
 use Rattle.sheet.specs.declared.held.Action.{Action}
 use Rattle.sheet.specs.declared.held.Action.TheVariants.{Count, Rewrite, Store, ChangeZero}
-use Rattle.sheet.specs.declared.held.GroupZero.{GroupZero}
+use Rattle.ranking.specs.declared.zero.Zero.{Zero}
 use Rattle.sheet.specs.declared.held.Entry.{Entry}
 
 -- "Each has n in one byte, then n levels of two bytes"; "size is judged at the n byte and a tie after the group's last level". A group is its list of levels
@@ -60,7 +60,7 @@ command sizes s at =
 -- what a sheet without fault says; the zeros are those on which the groups start, by group number
 pub record Contents : Type 0 where
   pub groups : List (List ℕ)
-  pub zeros : List GroupZero
+  pub zeros : List Zero
   pub entries : List Entry
 
 -- the commands in a row, and then the zeros, to the end of the sheet

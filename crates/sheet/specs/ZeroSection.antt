@@ -4,14 +4,6 @@ use Rattle.theory.specs.Lists.{member, names_from}
 use Rattle.ranking.specs.declared.zero.Zero.{Zero}
 use Rattle.ranking.specs.declared.zero.Zero.TheVariants.{Old, New}
 use Rattle.sheet.specs.Bytes.{ill_formed, Got, got, after, check, many, number}
-use Rattle.sheet.specs.declared.held.GroupZero.{GroupZero}
-
--- "A group now carries its zero: old, or new."
-abbrev pub on_zero : Zero → GroupZero
-on_zero zero = record { zero = zero }
-
-abbrev pub on_old : GroupZero
-on_old = on_zero Old
 
 -- "strictly rising": each number is at least `low`, which is one past the number before it; and each is a group number, below G
 unfoldable pub rising : ℕ → ℕ → List ℕ → Bool
@@ -32,16 +24,16 @@ named_groups G s at =
 unfoldable pub section : ℕ → List ℕ → ℕ → Got (List ℕ)
 section G s at = cond (eqb at (length s)) (got [] at) (named_groups G s at)
 
--- the zero of group g, where these are "the numbers of the groups on the new zero"
-abbrev pub zero_among : List ℕ → ℕ → GroupZero
-zero_among numbers g = on_zero (cond (member g numbers) New Old)
+-- "A group now carries its zero: old, or new." That of group g, where these are "the numbers of the groups on the new zero"
+abbrev pub zero_among : List ℕ → ℕ → Zero
+zero_among numbers g = cond (member g numbers) New Old
 
 -- the zeros of G groups, by group number
-unfoldable pub zeros_of : ℕ → List ℕ → List GroupZero
+unfoldable pub zeros_of : ℕ → List ℕ → List Zero
 zeros_of G numbers = map (zero_among numbers) (names_from 0 G)
 
 -- to the end of the sheet: "bytes after the last of them" are ill-formed
-unfoldable pub zeros_at : ℕ → List ℕ → ℕ → Got (List GroupZero)
+unfoldable pub zeros_at : ℕ → List ℕ → ℕ → Got (List Zero)
 zeros_at G s at =
     after (section G s at) (λ numbers end.
     check (eqb end (length s)) ill_formed

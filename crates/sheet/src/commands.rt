@@ -2,59 +2,32 @@
 ghost use Rattle.std.specs.Prelude.{◌≡◌, [], ◌+◌, ◌≤◌, length};
 ghost use Rattle.theory.specs.Permutation.{row};
 ghost use Rattle.sheet.specs.Sheet as meaning;
-ghost use Rattle.sheet.specs.Held.{no_entry};
-ghost use Rattle.sheet.specs.Parts.{entry_answer, numbers, Small};
+ghost use Rattle.sheet.specs.Parts.{as_entry, entry_answer, numbers, Small};
 
-use super::held::{Action, Command, Entry, no_entry};
+use super::held::{Action, Command, Entry};
 use super::little::little;
 use permutation::answers::Permutation;
-use permutation::cell::wide;
-use permutation::reasons::SHEET;
-
-// A command and the place after it, or the number of a fault.
-#[derive(Clone, Copy)]
-pub struct EntryRead {
-    pub number: u8,
-    pub entry: Entry,
-    pub next: usize,
-}
-
-// Every fault of a command has this number.
-fn refuse() -> EntryRead
-    ensures { result ≡ record { number = 8; entry = no_entry; next = 0 } }
-{
-    let entry = no_entry();
-    EntryRead {
-        number: SHEET,
-        entry,
-        next: 0,
-    }
-}
+use permutation::reasons::Refusal;
 
 // A command that has no target.
-fn untargeted(group: u8, action: Action, next: usize) -> EntryRead
-    ensures { result ≡ record { number = 0; entry = meaning.entry group action []; next = next } }
+fn untargeted(group: u8, action: Action) -> Entry
+    ensures { result ≡ meaning.entry group action [] }
 {
-    let cells = [0u8; 20];
-    EntryRead {
-        number: 0,
-        entry: Entry {
-            command: Command { group, action },
-            target: Permutation { n: 0, cells },
-        },
-        next,
+    Entry {
+        command: Command { group, action },
+        target: Permutation::none(),
     }
 }
 
-fn count_at(s: &[u8], at: usize, group: u8) -> EntryRead
+fn count_at(s: &[u8], at: usize, group: u8) -> Result<(Entry, usize), Refusal>
     requires { at ≤ length s.now }
-    ensures { result ≡ entry_answer (meaning.count_at group s.now at) }
+    ensures { as_entry result ≡ entry_answer (meaning.count_at group s.now at) }
 {
     if s.len() - at < 4 {
-        return refuse();
+        return Err(Refusal::Sheet);
     }
     let k = little(s, at, 4) as u32;
-    untargeted(group, Action::Count(k), at + 4)
+    Ok((untargeted(group, Action::Count(k)), at + 4))
 }
 
 // n names of a byte from a place on, in a row of twenty.
@@ -63,73 +36,64 @@ fn names_at(s: &[u8], from: usize, n: usize) -> [u8; 20]
     ensures { result ≡ row (numbers 1 n s.now from) }
 {
     let mut names = [0u8; 20];
-    let mut i: usize = 0;
-    while i < n {
-        names[i] = s[from + i];
-        i += 1;
-    }
+    names[..n].copy_from_slice(&s[from..from + n]);
     names
 }
 
 // n is the number of the group's cells.
-fn rewrite_at(s: &[u8], at: usize, group: u8, n: usize) -> EntryRead
+fn rewrite_at(s: &[u8], at: usize, group: u8, n: usize) -> Result<(Entry, usize), Refusal>
     requires { (at ≤ length s.now) × (n ≤ 20) }
-    ensures { result ≡ entry_answer (meaning.rewrite_at group n s.now at) }
+    ensures { as_entry result ≡ entry_answer (meaning.rewrite_at group n s.now at) }
 {
     if s.len() - at < n {
-        return refuse();
+        return Err(Refusal::Sheet);
     }
-    let cells = names_at(s, at, n);
-    EntryRead {
-        number: 0,
-        entry: Entry {
-            command: Command {
-                group,
-                action: Action::Rewrite,
-            },
-            target: Permutation { n, cells },
+    let entry = Entry {
+        command: Command {
+            group,
+            action: Action::Rewrite,
         },
-        next: at + n,
-    }
+        target: Permutation {
+            n,
+            cells: names_at(s, at, n),
+        },
+    };
+    Ok((entry, at + n))
 }
 
-fn store_at(s: &[u8], at: usize, group: u8) -> EntryRead
+fn store_at(s: &[u8], at: usize, group: u8) -> Result<(Entry, usize), Refusal>
     requires { at ≤ length s.now }
-    ensures { result ≡ entry_answer (meaning.store_at group s.now at) }
+    ensures { as_entry result ≡ entry_answer (meaning.store_at group s.now at) }
 {
     if s.len() - at < 16 {
-        return refuse();
+        return Err(Refusal::Sheet);
     }
     let m = little(s, at, 8);
     let symbol = little(s, at + 8, 8);
-    untargeted(group, Action::Store(m, symbol), at + 16)
+    Ok((untargeted(group, Action::Store(m, symbol)), at + 16))
 }
 
-// `sizes` has the number of cells of each group. For other crates too: it asks that no size is above twenty.
-pub fn read_command(s: &[u8], at: usize, sizes: &[usize]) -> EntryRead
+// A command, and the place after it. `sizes` has the number of cells of each group. For other crates too: it asks that no size is above twenty.
+pub fn read_command(s: &[u8], at: usize, sizes: &[usize]) -> Result<(Entry, usize), Refusal>
     requires { Small sizes.now }
-    ensures { result ≡ entry_answer (meaning.command sizes.now s.now at) }
+    ensures { as_entry result ≡ entry_answer (meaning.command sizes.now s.now at) }
 {
-    if s.len() <= at {
-        return refuse();
+    if s.len().saturating_sub(at) < 2 {
+        return Err(Refusal::Sheet);
     }
     let kind = s[at];
-    let place = at + 1;
-    if s.len() <= place {
-        return refuse();
-    }
-    let group = s[place];
-    let g = wide(group);
+    let group = s[at + 1];
+    let g = usize::from(group);
     if sizes.len() <= g {
-        return refuse();
+        return Err(Refusal::Sheet);
     }
-    let body = place + 1;
-    let n = sizes[g];
+    let body = at + 2;
+    // a kind is a byte of the sheet: its numbers stand here, where it is read, and in `encoding::commands`, where it is written
     match kind {
         1 => count_at(s, body, group),
-        2 => rewrite_at(s, body, group, n),
+        2 => rewrite_at(s, body, group, sizes[g]),
         3 => store_at(s, body, group),
-        4 => untargeted(group, Action::ChangeZero, body),
-        _ => refuse(),
+        4 => Ok((untargeted(group, Action::ChangeZero), body)),
+        _ => Err(Refusal::Sheet),
     }
 }

@@ -1,7 +1,8 @@
-// A bench sheet in memory: groups, their zeros and commands in rows of fixed length, filled from the front. In one that was read, 0s stand past groups and commands, past
+// A bench sheet in memory: groups, their zeros and commands in rows of fixed length, filled from the front. Rows by value, with a count beside them that is any number:
+// nothing is put on a heap, and the writer judges every held sheet, also one whose count is past its row. In one that was read, 0s stand past groups and commands, past
 // each n, and in the target of a command that has none, and the old zero past those of the groups; in any other whatever does.
 ghost use Rattle.std.specs.Prelude.{◌≡◌, replicate};
-ghost use Rattle.sheet.specs.ZeroSection.{on_old};
+ghost use Rattle.ranking.specs.declared.zero.Zero.TheVariants.{Old};
 ghost use Rattle.sheet.specs.Held.{no_group, no_entry};
 
 use permutation::answers::Permutation;
@@ -18,12 +19,6 @@ pub struct Group {
 pub struct Groups {
     pub count: usize,
     pub list: [Group; 64],
-}
-
-// The zero of a group. In a struct of its own, since Rattle's borrow checker covers no field that is a row of enums.
-#[derive(Clone, Copy)]
-pub struct GroupZero {
-    pub zero: Zero,
 }
 
 // What a command asks for, by its kind.
@@ -53,50 +48,43 @@ pub struct Entry {
 #[derive(Clone, Copy)]
 pub struct Sheet {
     pub groups: Groups,
-    pub zeros: [GroupZero; 64],
+    pub zeros: [Zero; 64],
     pub count: usize,
     pub entries: [Entry; 1000],
-}
-
-#[derive(Clone, Copy)]
-pub struct SheetRead {
-    pub number: u8,
-    pub sheet: Sheet,
 }
 
 pub fn no_group() -> Group
     ensures { result ≡ no_group }
 {
-    let levels = [0u16; 20];
-    Group { n: 0, levels }
+    Group {
+        n: 0,
+        levels: [0; 20],
+    }
 }
 
-// For other crates too.
+// A blank row, whose length stands once for all crates; so do those below. For other crates too.
 pub fn no_groups() -> [Group; 64]
     ensures { result ≡ replicate 64 no_group }
 {
-    let none = no_group();
-    [none; 64]
+    [no_group(); 64]
 }
 
 // Every group on the old zero. For other crates too.
-pub fn old_zeros() -> [GroupZero; 64]
-    ensures { result ≡ replicate 64 on_old }
+pub fn old_zeros() -> [Zero; 64]
+    ensures { result ≡ replicate 64 Old }
 {
-    let old = GroupZero { zero: Zero::Old };
-    [old; 64]
+    [Zero::Old; 64]
 }
 
 pub fn no_entry() -> Entry
     ensures { result ≡ no_entry }
 {
-    let cells = [0u8; 20];
     Entry {
         command: Command {
             group: 0,
             action: Action::Count(0),
         },
-        target: Permutation { n: 0, cells },
+        target: Permutation::none(),
     }
 }
 
@@ -104,6 +92,5 @@ pub fn no_entry() -> Entry
 pub fn no_entries() -> [Entry; 1000]
     ensures { result ≡ replicate 1000 no_entry }
 {
-    let none = no_entry();
-    [none; 1000]
+    [no_entry(); 1000]
 }

@@ -8,10 +8,10 @@ use lib.Dec.{leb}
 use Rattle.theory.specs.Reasons.{value}
 use Rattle.theory.specs.Factorial.{factorial}
 use Rattle.theory.specs.Prefix.{prefix_length}
+use Rattle.theory.proofs.Cases.{by_le}
 use Rattle.theory.proofs.Refusal.{tested}
 use Rattle.symbols.specs.Answers.{coded, code_of}
-use Rattle.symbols.specs.ByCode.{code_judged}
-use Rattle.symbols.specs.declared.code.Code.{Code}
+use Rattle.symbols.specs.ByCode.{Code, code_judged}
 
 module _ (n m : ℕ) where
   pub code_none : m < 1 → value ≡ code_of n m
@@ -22,6 +22,9 @@ module _ (n m : ℕ) where
 
   pub code_done : 1 ≤ m → m ≤ factorial n → code_of n m ≡ 0
   code_done low high = rw (le-leb 1 m low, le-leb m (factorial n) high)
+
+  pub code_out : (1 ≤ m → m ≤ factorial n → ⊥) → value ≡ code_of n m
+  code_out h = by_le 1 m (λ low. by_le m (factorial n) (λ high. absurd (h low high)) code_many) code_none
 
   pub code_range : code_of n m ≡ 0 → (1 ≤ m) × (m ≤ factorial n)
   code_range z =

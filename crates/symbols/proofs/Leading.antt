@@ -6,7 +6,7 @@ use mathlib.Core.List.{List, [], ◌∷◌, ◌++◌, map, Sublistᴰ}
 use Prim.Native.Nat.{ℕ, zero, suc, ◌+◌, ◌-◌, ◌≤◌, ◌<◌}
 use native.Mathlib.Omega.{arith}
 use lib.ListN.{length, get_or, take, drop, take-append-drop, length-append, length-drop, get_or-append}
-use lib.Seq.{drop-cons, drop-append-le, length-take-le, get_or-drop, get_or-take, drop-drop}
+use lib.Seq.{drop-cons, drop-append-le, length-take-le, get_or-drop, get_or-take, get_or-append-add, append_snoc, drop-drop}
 use Rattle.theory.specs.Lists.{member, without}
 use Rattle.theory.specs.Permutation.{IsPermutation}
 use Rattle.theory.specs.Levels.{level, highest, tied, permutation_of, Falls}
@@ -53,6 +53,50 @@ module _ {along : List ℕ} {p bound r : ℕ} (v : Rising along p bound r) where
             (λ q e. rw (q, next, ← v.bound_is) h)
             (λ ne e. v.above j (omega (arith, ne)) high);
       }
+
+-- the same, by the levels that are left to go up
+pub record Going (along : List ℕ) (p bound : ℕ) (rest : List ℕ) : Type 0 where
+  pub behind : List ℕ
+  pub is : along ≡ rest ++ behind
+  pub rising : Rising along p bound (length rest)
+
+pub going : {along rest : List ℕ} {p bound : ℕ} → p < length along → rest ≡ take p along → bound ≡ highest (drop p along) → Going along p bound rest
+going {along} {rest} {p} short is e =
+    let long : length rest ≡ p = rw is (length-take-le p along (omega arith)) in
+    record { behind = drop p along; is = rw is (sym (take-append-drop p along)); rising = rw long (start short e) }
+
+module _ {along rest : List ℕ} {p bound : ℕ} (v : Going along p bound rest) (left : List ℕ) (x : ℕ) (next : rest ≡ left ++ x ∷ []) where
+  left_long : length rest - 1 ≡ length left
+  left_long = rw (next, length-append) (omega arith)
+
+  some : 0 < length rest
+  some = rw (next, length-append) (omega arith)
+
+  parts : along ≡ left ++ x ∷ v.behind
+  parts = v.is ∙ rw next (append_snoc left x v.behind)
+
+  level_is : get_or along (length rest - 1) 0 ≡ x
+  level_is =
+      let here : length left + 0 ≡ length left = omega arith in
+      rw (left_long, parts) (rw here at (get_or-append-add left (x ∷ v.behind) 0 0))
+
+  -- it is not above all behind it
+  pub going_end : x ≤ bound → FallsFrom along p (length left + 1)
+  going_end h =
+      let long : length rest ≡ length left + 1 = omega (arith, left_long, some) in
+      rw long at (end v.rising (λ pos. rw level_is h))
+
+  -- it is
+  pub going_on : bound < x → Going along p x left
+  going_on h = record {
+    behind = x ∷ v.behind;
+    is = parts;
+    rising = rw (level_is, left_long) at (step v.rising some (rw level_is h));
+  }
+
+-- all are
+pub gone : {along rest : List ℕ} {p bound : ℕ} → Going along p bound rest → length rest ≡ 0 → FallsFrom along p 0
+gone v none = rw none at (end v.rising (λ pos. absurd (omega arith)))
 
 -- ---- cells along which the levels fall
 

@@ -1,9 +1,12 @@
 -- The search for the prefix length of a code, by the factorials that are at most n!/m: what is left of it is the whole search. Assumes nothing.
 use mathlib.Core.Path.{◌≡◌, sym, ◌∙◌}
 use mathlib.Core.Bool.{Bool}
-use Prim.Native.Nat.{ℕ, ◌+◌, ◌-◌, ◌/◌, ◌≤◌, ◌<◌}
+use Prim.Native.Nat.{ℕ, zero, suc, ◌+◌, ◌-◌, ◌/◌, ◌≤◌, ◌<◌}
 use native.Mathlib.Nat.{mul_comm, le-div_iff_mul-le, div-lt_iff_lt-mul}
+use native.Mathlib.Numerals.{add-one}
 use native.Mathlib.Omega.{arith}
+use Rattle.std.specs.Option.{MatchOption, unwrap_or}
+use Rattle.std.proofs.Common.{Option, Some, None}
 use borrow.Author.Tests.{le-leb, lt-leb}
 use lib.Dec.{leb}
 use Rattle.theory.specs.Factorial.{factorial}
@@ -54,3 +57,20 @@ module _ {n m p : ℕ} (v : Searched n m p) (some : 1 ≤ m) where
     step =
         let few = swap_below (factorial n) (factorial (n - p)) m (factorial_pos (n - p)) some h in
         record { within = omega (arith, more); left = sym (least_from_next (enough n m) n p more (lt-leb m _ few)) ∙ v.left }
+
+-- p is the first length, if there is one below n, for which (n-p)! is at most n!/m
+module _ (n m : ℕ) (some : 1 ≤ m) (fits : m ≤ factorial n) where
+  searched : (p : ℕ) → p ≤ n → ((k : ℕ) → k < p → factorial n / m < factorial (n - k)) → Searched n m p
+  searched zero le none = start n m
+  searched (suc p) le none =
+      let v = searched p (omega arith) (λ k h. none k (omega arith)) in
+      rw (add-one p) at (step v some fits (none p (omega arith)))
+
+  pub first_found : (r : Option ℕ)
+      → MatchOption r ((k : ℕ) → 0 ≤ k → k < n → factorial n / m < factorial (n - k)) (λ i. (0 ≤ i) × (i < n) × (factorial (n - i) ≤ factorial n / m) × ((k : ℕ) → 0 ≤ k → k < i → factorial n / m < factorial (n - k)))
+      → unwrap_or r n ≡ prefix_length n m
+  first_found None none =
+      let v = searched n (omega arith) (λ k h. none k (omega arith) h) in
+      let last : n - n ≡ 0 = omega arith in
+      found v some (rw last ((le-div_iff_mul-le {x = 1} {y = factorial n} some).1 (omega arith)))
+  first_found (Some p) h = found (searched p (omega arith) (λ k l. h.3 k (omega arith) l)) some h.2

@@ -3,7 +3,7 @@ use mathlib.Core.Path.{◌≡◌, sym, ◌∙◌}
 use mathlib.Core.List.{List, ◌++◌, append_assoc}
 use Prim.Native.Nat.{ℕ, ◌≤◌, ◌<◌}
 use native.Mathlib.Omega.{arith}
-use lib.ListN.{length, take, drop, replicate, length-append, length-drop}
+use lib.ListN.{length, take, drop, replicate}
 use lib.Seq.{take_at, drop_at}
 use Rattle.theory.specs.Factorial.{falling}
 use Rattle.theory.specs.Permutation.{IsPermutation, row}
@@ -55,12 +55,6 @@ abbrev zeros : List ℕ
 zeros = replicate 20 0
 
 module _ {n : ℕ} (many : n ≤ 20) {named : List ℕ} (named_is : named ≡ names n ++ drop n zeros) where
-  pub named_long : length named ≡ 20
-  named_long = rw (named_is, length-append, names_length 1 n, length-drop n zeros) (omega arith)
-
-  pub named_first : take n named ≡ names n
-  named_first = rw named_is (take_at (names n) (drop n zeros) n (names_length 1 n))
-
   -- then the prefix and the names that are left
   pub chosen_row : (p s : ℕ) → s < falling n p → {led : List ℕ} → led ≡ prefix_at n p s ++ (without (prefix_at n p s) (names n) ++ drop n named) → led ≡ row (with_others n (prefix_at n p s))
   chosen_row p s fits led_is =

@@ -8,7 +8,7 @@ use native.Mathlib.Omega.{arith}
 use borrow.Author.Tests.{ne_eqb, ltb-true, lt-ltb, le-ltb}
 use lib.Dec.{ltb}
 use lib.ListN.{length, replicate}
-use Rattle.theory.specs.Reasons.{done, size, value}
+use Rattle.theory.specs.Reasons.{done, value}
 use Rattle.theory.specs.Refusal.{or_else, size_of}
 use Rattle.theory.specs.Factorial.{factorial, falling}
 use Rattle.theory.specs.Permutation.{row}
@@ -37,9 +37,9 @@ module _ (n m s : ℕ) where
   unfolding row_answer
   row_refused e ne = rw (← e, ne_eqb _ 0 ne)
 
-  pub size_reason : size ≡ size_of n → size ≡ code_number n m s
+  pub size_reason : {number : ℕ} → number ≡ size_of n → (number ≡ 0 → ⊥) → number ≡ code_number n m s
   unfolding code_number
-  size_reason e = or_else_refused (size_of n) _ e (λ z. omega arith)
+  size_reason e ne = or_else_refused (size_of n) _ e ne
 
   module _ (sized : size_of n ≡ 0) where
     pub too_large : factorial n < m → value ≡ code_number n m s

@@ -1,11 +1,11 @@
 -- Storing a prefix, whatever it is, and storing a symbol: what each way out answers, and what the levels then are read as. Assumes nothing.
-use mathlib.Core.Path.{◌≡◌, sym, ap, ◌∙◌}
+use mathlib.Core.Path.{◌≡◌, refl, sym, ap, ◌∙◌}
 use mathlib.Core.Bool.{Bool, true, false}
 use mathlib.Core.List.{List, ◌++◌, map, reverse}
 use Prim.Native.Nat.{ℕ, ◌≤◌}
 use native.Mathlib.Omega.{arith}
 use borrow.Author.Tests.{lt-ltb}
-use lib.ListN.{length, take, length-append, length-map}
+use lib.ListN.{length, take, length-map}
 use lib.Seq.{take_at, take-take, get_or-take}
 use Rattle.theory.specs.Reasons.{tie}
 use Rattle.theory.specs.Refusal.{given}
@@ -25,14 +25,21 @@ use Rattle.theory.proofs.Prefixes.{permutation_prefix, prefix_length_short}
 use Rattle.theory.proofs.Storing.{storing, symbol_storing}
 use Rattle.theory.proofs.Spent.{row_sum, given_sum}
 use Rattle.charge.specs.Answers as charge
-use Rattle.charge.specs.Answers.{no_pushes, pushes_of}
+use Rattle.charge.specs.Answers.{no_pushes, pushes_of, as_pushes}
+use Rattle.charge.specs.declared.answers.Spent.{Spent}
+use Rattle.permutation.specs.declared.reasons.Refusal.{Refusal}
+use Rattle.permutation.proofs.Refusals as refusals
+use Rattle.permutation.specs.Refusals.{number_of, number_in}
+use Rattle.std.specs.Result.{IfOk, result_and}
+use Rattle.std.proofs.Common.{Result, Ok, Err}
 use Rattle.charge.specs.declared.answers.Pushes.{Pushes}
 use Rattle.charge.proofs.Numbers.{pushes_refused, with_spent}
 use Rattle.charge.proofs.ReadLevels.{row_readable}
 use Rattle.rewriting.specs.Raising.{Pushable, raised}
+use Rattle.symbols.specs.declared.answers.Prefix.{Prefix}
 use Rattle.symbols.specs.declared.answers.Prefixed.{Prefixed}
-use Rattle.symbols.specs.Answers.{code_number, prefix_on, pushes_for, lead_number, lead_answer, lead_levels, store_number, store_answer, store_levels, symbol_number, symbol_answer, LedBy, StoreOf}
-use Rattle.symbols.specs.AnyPrefix.{row_answer, PrefixRow, FallsFrom}
+use Rattle.symbols.specs.Answers.{as_prefixed, code_number, prefix_on, pushes_for, lead_number, lead_answer, lead_levels, store_number, store_answer, store_levels, symbol_number, symbol_answer, LedBy, StoreOf}
+use Rattle.symbols.specs.AnyPrefix.{row_answer, PrefixRow, FallsFrom, FoundAs}
 use Rattle.symbols.proofs.Along.{tied_row}
 use Rattle.symbols.proofs.Leading.{count_is}
 use Rattle.symbols.proofs.PrefixRows.{with_others, row_front, row_stored}
@@ -62,6 +69,15 @@ module _ {L q : List ℕ} {p : ℕ} (r : Readable L) (prefix : IsPrefix (length 
     fewest = λ is places lead. rw e (stores.fewest is places (rw prefix.long at lead));
   }
 
+-- what is said of the pushes of a job that is done, by its number
+pub if_done : (P : ℕ → Type 0) (r : Result Spent Refusal) → ((as_pushes r).number ≡ 0 → P (as_pushes r).pushes) → IfOk r (λ d. P d.pushes)
+if_done P (Ok d) h = h refl
+if_done P (Err e) h = tt
+
+pub done_if : (P : ℕ → Type 0) (r : Result Spent Refusal) → IfOk r (λ d. P d.pushes) → (as_pushes r).number ≡ 0 → P (as_pushes r).pushes
+done_if P (Ok d) h z = h
+done_if P (Err e) h z = absurd (refusals.not_done e z)
+
 pub not_done : {a : Pushes} {number : ℕ} → a ≡ no_pushes number → (number ≡ 0 → ⊥) → a.number ≡ 0 → ⊥
 not_done e ne z = ne (sym (ap (λ (a : Pushes). a.number) e) ∙ z)
 
@@ -82,6 +98,12 @@ module _ (code : ℕ) (L q : List ℕ) where
   unfolding lead_number
   lead_code z e ne = rw z (or_else_refused code _ e ne)
 
+  -- a refusal by the code, after one by the levels
+  pub tie_first : (r : Result (Unit {0}) Refusal) (e : Refusal) → number_in r ≡ read_number L → number_of e ≡ code → {a : Result Spent Refusal} → a ≡ result_and r (Err e)
+      → (number : ℕ) × (as_pushes a ≡ no_pushes number) × (number ≡ lead_number code L q) × (number ≡ 0 → ⊥)
+  tie_first (Ok x) e levels is done = (number_of e, ap as_pushes done, lead_code (sym levels) is (refusals.not_done e), refusals.not_done e)
+  tie_first (Err t) e levels is done = (number_of t, ap as_pushes done, lead_fault levels (refusals.not_done t), refusals.not_done t)
+
   -- whatever is answered, the sum of the levels grows by what is spent
   pub lead_spends : (lead_number code L q ≡ 0 → IsPrefix (length L) (length q) q) → Spends L (lead_levels code L q) (lead_answer code L q).charge
   unfolding lead_answer lead_levels lead_number
@@ -98,10 +120,6 @@ module _ {L cells : List ℕ} {p : ℕ} (v : PrefixRow L cells p) where
   pub along_front : {along : List ℕ} (rest : List ℕ) → along ≡ map (level L) (take (length L) cells) ++ rest
       → take (length L) along ≡ map (level L) (take (length L) cells)
   along_front rest e = rw e (take_at _ rest (length L) (length-map (take (length L) cells) (level L) ∙ whole_long))
-
-  pub along_room : {along : List ℕ} (rest : List ℕ) → along ≡ map (level L) (take (length L) cells) ++ rest → length L ≤ length along
-  along_room rest e =
-      omega (arith, ap length e, length-append (map (level L) (take (length L) cells)) rest, length-map (take (length L) cells) (level L), whole_long)
 
   front_of : take p (take (length L) cells) ≡ take p cells
   front_of = take-take p (length L) cells (omega (arith, v.short))
@@ -120,9 +138,6 @@ module _ {L cells : List ℕ} {p : ℕ} (v : PrefixRow L cells p) where
 
   -- of these levels x
   module _ {x : List ℕ} (x_is : x ≡ map (level L) (take (length L) cells)) where
-    pub along_long : length x ≡ length L
-    along_long = ap length x_is ∙ length-map (take (length L) cells) (level L) ∙ whole_long
-
     -- their tie is that of the levels
     tie_is : tied x ≡ tied L
     tie_is = ap tied x_is ∙ tied_row L (take (length L) cells) v.permutation
@@ -203,13 +218,6 @@ abbrev Answered : List ℕ → ℕ → ℕ → Pushes → List ℕ → Type 0
 Answered L m s a L' =
     (a ≡ store_answer L m s) × ((L' ≡ store_levels L m s) × ((a.number ≡ 0 → StoreOf L m s L' a.pushes) × Spends L L' a.charge))
 
-pub store_refused : (L : List ℕ) (m s : ℕ) {a : Pushes} {number : ℕ} → a ≡ no_pushes number → number ≡ store_number L m s → (number ≡ 0 → ⊥)
-    → Answered L m s a L
-store_refused L m s e is ne =
-    let b = lead_refused (code_number (length L) m s) L (prefix_on L m s) e is ne in
-    let t = with_spent L (store_spends L m s) (b.0, b.1.0) in
-    (t.0, (t.1.0, (λ z. absurd (not_done e ne z), t.1.1)))
-
 pub row_number : (n m s : ℕ) {found : Prefixed} → found ≡ row_answer n m s → found.number ≡ code_number n m s
 unfolding row_answer
 row_number n m s e = ap (λ (f : Prefixed). f.number) e
@@ -242,25 +250,44 @@ module _ (L : List ℕ) (m s : ℕ) {found : Prefixed} (e : found ≡ row_answer
       rw (cells_are, length_is)
       (row_stored codes.few codes.many prefix_of_lem (prefix_length_short (length L) m (omega (arith, codes.few)) codes.most))
 
-  -- what is answered of the prefix is the answer of the job
-  pub found_stored : {a : Pushes} {L' : List ℕ} → Led 0 L (take found.length found.cells) a L' → Answered L m s a L'
-  unfolding lead_answer lead_levels lead_number
-  found_stored {a} {L'} k =
-      let left : L' ≡ store_levels L m s = k.1.0 ∙ rw (front_is, number_done) in
-      let answer : a ≡ store_answer L m s = k.0 ∙ rw (front_is, number_done) in
-      let t = with_spent L (store_spends L m s) (answer, left) in (
-        t.0,
+-- whatever was found: its number, its prefix, and its row
+module _ (L : List ℕ) (m s : ℕ) where
+  pub found_number : (r : Result Prefix Refusal) → as_prefixed r ≡ row_answer (length L) m s → number_in r ≡ code_number (length L) m s
+  found_number (Ok p) e = row_number (length L) m s e
+  found_number (Err x) e = row_number (length L) m s e
+
+  pub found_as : (r : Result Prefix Refusal) → as_prefixed r ≡ row_answer (length L) m s → FoundAs r (prefix_on L m s)
+  found_as (Ok p) e = front_is L m s e refl
+  found_as (Err x) e = tt
+
+  pub found_row : (r : Result Prefix Refusal) → as_prefixed r ≡ row_answer (length L) m s → IfOk r (λ p. PrefixRow L p.cells p.length)
+  found_row (Ok p) e = found_prefix_row L m s e refl
+  found_row (Err x) e = tt
+
+-- what is answered of its prefix is the answer of the job
+pub led_answered : (L : List ℕ) (m s : ℕ) {a : Pushes} {L' : List ℕ} → Led (code_number (length L) m s) L (prefix_on L m s) a L' → Answered L m s a L'
+unfolding lead_number lead_levels lead_answer
+led_answered L m s {a} {L'} k =
+    let t = with_spent L (store_spends L m s) (k.0, k.1.0) in (
+      t.0,
+      (
+        t.1.0,
         (
-          t.1.0,
-          (
-            λ z.
-                let none : store_number L m s ≡ 0 = sym (ap (λ (b : Pushes). b.number) answer) ∙ z in
-                let now = readable (or_else_done (read_number L) _ none).0 in
-                record {
-                  led = rw front_is at (k.1.1 z);
-                  read_back = rw (left ∙ given_done (store_number L m s) _ L none) (symbol_read L m s codes now);
-                },
-            t.1.1,
-          ),
+          λ z.
+              let none : store_number L m s ≡ 0 = sym (ap (λ (b : Pushes). b.number) k.0) ∙ z in
+              let past = or_else_done (read_number L) _ none in
+              let now = readable past.0 in
+              let codes = in_range_lem (or_else_done (code_number (length L) m s) _ past.1).0 in
+              record {
+                led = k.1.1 z;
+                read_back = rw (k.1.0 ∙ given_done (store_number L m s) _ L none) (symbol_read L m s codes now);
+              },
+          t.1.1,
         ),
-      )
+      ),
+    )
+
+-- a refusal leaves the levels as they were
+pub store_refused : (L : List ℕ) (m s : ℕ) {a : Pushes} {number : ℕ} → a ≡ no_pushes number → number ≡ store_number L m s → (number ≡ 0 → ⊥)
+    → Answered L m s a L
+store_refused L m s e is ne = led_answered L m s (lead_refused (code_number (length L) m s) L (prefix_on L m s) e is ne)

@@ -13,9 +13,8 @@ use Rattle.theory.proofs.Prefixes.{coding}
 use Rattle.theory.proofs.Refusal.{refused, or_else_refused}
 use Rattle.theory.proofs.Sorting.{permutation_of_permutation, permutation_of_length}
 use Rattle.permutation.specs.Records.{list_of, record_of, record_number}
-use Rattle.permutation.specs.Spots.{checked}
+use Rattle.permutation.specs.Spots.{Checked, checked}
 use Rattle.permutation.specs.declared.answers.Permutation.{Permutation}
-use Rattle.permutation.specs.declared.validity.Checked.{Checked}
 use Rattle.permutation.proofs.Records.{Sound, fault_record}
 use Rattle.permutation.proofs.Answering.{list_record}
 use Rattle.permutation.proofs.Checking.{check_spots}

@@ -1,5 +1,5 @@
 -- What the public functions answer, and the levels that they leave, for all inputs: m symbols on n cells. Assumes nothing.
-use Rattle.std.specs.Prelude.{◌≡◌, Bool, cond, ◌&&◌, List, [], ◌++◌, ℕ, ◌≤◌, leb, ltb, length, take}
+use Rattle.std.specs.Prelude.{◌≡◌, Bool, cond, ◌&&◌, List, [], ◌++◌, ℕ, ◌≤◌, leb, ltb, length, take, replicate, Result, Ok, Err}
 use Rattle.theory.specs.Reasons.{done, value, idle}
 use Rattle.theory.specs.Lists.{without}
 use Rattle.theory.specs.Factorial.{factorial}
@@ -12,10 +12,22 @@ use Rattle.theory.specs.Store.{store_count, store_pushes}
 use Rattle.theory.specs.Spent.{charge_of}
 use Rattle.theory.specs.Refusal.{given, or_else, size_of}
 use Rattle.permutation.specs.Answers.{permuted}
+use Rattle.permutation.specs.Refusals.{number_of, number_in, given_in}
+use Rattle.permutation.specs.declared.reasons.Refusal.{Refusal}
 use Rattle.charge.specs.Answers.{pushes_of, read_answer}
 use Rattle.charge.specs.declared.answers.Pushes.{Pushes}
 use Rattle.symbols.specs.declared.answers.Symbol.{Symbol}
+use Rattle.symbols.specs.declared.answers.Prefix.{Prefix}
 use Rattle.symbols.specs.declared.answers.Prefixed.{Prefixed}
+
+-- a job's symbol as C gets it: a number, and 0 where it is not 0
+abbrev pub as_symbol : Result ℕ Refusal → Symbol
+as_symbol r = record { number = number_in r; symbol = given_in 0 r }
+
+-- a job's prefix as C gets it: a number, and zeros where it is not 0
+abbrev pub as_prefixed : Result Prefix Refusal → Prefixed
+as_prefixed (Ok p) = record { number = done; length = p.length; cells = p.cells }
+as_prefixed (Err e) = record { number = number_of e; length = 0; cells = replicate 20 0 }
 
 -- "m outside 1 to n!" is value
 abbrev pub coded : ℕ → ℕ → Bool

@@ -1,31 +1,14 @@
 // The prefix of a symbol.
-ghost use Rattle.std.specs.Prelude.{◌≡◌, ◌++◌, ◌-◌, ◌≤◌, length, take, replicate};
-ghost use Rattle.symbols.specs.Answers.{prefix_answer};
+ghost use Rattle.std.specs.Prelude.{◌≡◌};
+ghost use Rattle.symbols.specs.Answers.{prefix_answer, as_prefixed};
 
-use super::answers::Prefixed;
+use super::answers::Prefix;
 use super::row::prefix_row;
+use permutation::reasons::Refusal;
 
-// Zeros past the first p places. For other crates too: it asks for a row of twenty, and p within it.
-pub fn clear_from(cells: &mut [u8; 20], p: usize)
-    requires { (p ≤ 20) × (length cells.old ≡ 20) }
-    ensures { cells.new ≡ take p cells.old ++ replicate (20 - p) 0 }
+// That of a weighted symbol is `uneven::prefix_uneven`: they have `Prefix::alone` in common, and rows of their own.
+pub fn prefix(n: usize, m: u64, symbol: u64) -> Result<Prefix, Refusal>
+    ensures { as_prefixed result ≡ prefix_answer n m symbol }
 {
-    let mut i = p;
-    while i < 20 {
-        cells[i] = 0;
-        i += 1;
-    }
-}
-
-pub fn prefix(n: usize, m: u64, symbol: u64) -> Prefixed
-    ensures { result ≡ prefix_answer n m symbol }
-{
-    let found = prefix_row(n, m, symbol);
-    let mut cells = found.cells;
-    clear_from(&mut cells, found.length);
-    Prefixed {
-        number: found.number,
-        length: found.length,
-        cells,
-    }
+    Ok(prefix_row(n, m, symbol)?.alone())
 }

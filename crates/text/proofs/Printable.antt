@@ -14,9 +14,8 @@ use Rattle.sheet.proofs.FaultNumbers.{answered_fault, answered_got}
 use Rattle.sheet.proofs.InMemory.{groups_back}
 use Rattle.sheet.proofs.Claims.{sheets}
 use Rattle.work.specs.Work.{answers_of, groups_left, values_left}
-use Rattle.work.specs.Answers.{no_answer, outcome_of, work_answer}
+use Rattle.work.specs.Answers.{Worked, no_answer, outcome_of, work_answer}
 use Rattle.work.specs.declared.answers.Outcome.{Outcome}
-use Rattle.work.specs.declared.answers.Worked.{Worked}
 use Rattle.work.proofs.Working.{answers_length, groups_after_all_held, values_length}
 use Rattle.work.proofs.Outcomes.{worked_tells_fault}
 use Rattle.layout.specs.Text.{fault_line, command_lines, group_lines, text_of}

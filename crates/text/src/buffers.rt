@@ -1,4 +1,4 @@
-// Buffers for a whole sheet and a whole text, for the programs: zeros.
+// Buffers for a whole sheet and a whole text, for the programs: zeros. Each length stands in one place, with what it is the bound of.
 ghost use Rattle.std.specs.Prelude.{◌≡◌, ◌+◌, replicate};
 ghost use Rattle.sheet.specs.Claims.{longest_sheet};
 ghost use Rattle.text.specs.Claims.{text_bound};

@@ -59,56 +59,56 @@ use writer::answers::Written;
 pub extern "C" fn tm_push(permutation: Permutation, place: usize) -> Permuted
     ensures { result ≡ push_answer permutation place }
 {
-    push(permutation, place)
+    Permuted::from(push(permutation, place))
 }
 
 #[unsafe(no_mangle)]
 pub extern "C" fn tm_successor(permutation: Permutation) -> Placed
     ensures { result ≡ successor_answer permutation }
 {
-    successor(permutation)
+    Placed::from(successor(permutation))
 }
 
 #[unsafe(no_mangle)]
 pub extern "C" fn tm_digits(permutation: Permutation) -> Digits
     ensures { result ≡ digits_answer permutation }
 {
-    digits(permutation)
+    Digits::from(digits(permutation))
 }
 
 #[unsafe(no_mangle)]
 pub extern "C" fn tm_rank(permutation: Permutation) -> Ranked
     ensures { result ≡ rank_answer permutation }
 {
-    rank(permutation)
+    Ranked::from(rank(permutation))
 }
 
 #[unsafe(no_mangle)]
 pub extern "C" fn tm_unrank(n: usize, rank: u64) -> Permuted
     ensures { result ≡ unrank_answer n rank }
 {
-    unrank(n, rank)
+    Permuted::from(unrank(n, rank))
 }
 
 #[unsafe(no_mangle)]
 pub extern "C" fn tm_value(permutation: Permutation, zero: u8) -> Valued
     ensures { result ≡ value_by_number_answer permutation zero }
 {
-    value_by_number(permutation, zero)
+    Valued::from(value_by_number(permutation, zero))
 }
 
 #[unsafe(no_mangle)]
 pub extern "C" fn tm_permutation_of_value(n: usize, value: u64, zero: u8) -> Permuted
     ensures { result ≡ permutation_by_number_answer n value zero }
 {
-    permutation_by_number(n, value, zero)
+    Permuted::from(permutation_by_number(n, value, zero))
 }
 
 #[unsafe(no_mangle)]
 pub extern "C" fn tm_read(levels: &[u16]) -> Permuted
     ensures { result ≡ read_answer levels.now }
 {
-    read(levels)
+    Permuted::from(read(levels))
 }
 
 #[unsafe(no_mangle)]
@@ -117,7 +117,7 @@ pub extern "C" fn tm_push_level(levels: &mut [u16], place: usize) -> Pushes
     ensures levels_left { levels.new ≡ place_levels levels.old place }
     ensures spent { Spends levels.old levels.new result.charge }
 {
-    push_level(levels, place)
+    Pushes::from(push_level(levels, place))
 }
 
 #[unsafe(no_mangle)]
@@ -126,7 +126,7 @@ pub extern "C" fn tm_count_up(levels: &mut [u16], k: u32) -> Pushes
     ensures levels_left { levels.new ≡ call_levels k levels.old }
     ensures spent { Spends levels.old levels.new result.charge }
 {
-    count_up(levels, k)
+    Pushes::from(count_up(levels, k))
 }
 
 #[unsafe(no_mangle)]
@@ -137,7 +137,7 @@ pub extern "C" fn tm_rewrite(levels: &mut [u16], target: Permutation, list: &mut
     ensures reached { result.number ≡ 0 → RewriteOf levels.old target levels.new result.pushes }
     ensures spent { Spends levels.old levels.new result.charge }
 {
-    rewrite(levels, target, list)
+    Pushes::from(rewrite(levels, target, list))
 }
 
 #[unsafe(no_mangle)]
@@ -147,14 +147,14 @@ pub extern "C" fn tm_store(levels: &mut [u16], m: u64, symbol: u64) -> Pushes
     ensures stored { result.number ≡ 0 → StoreOf levels.old m symbol levels.new result.pushes }
     ensures spent { Spends levels.old levels.new result.charge }
 {
-    store(levels, m, symbol)
+    Pushes::from(store(levels, m, symbol))
 }
 
 #[unsafe(no_mangle)]
 pub extern "C" fn tm_read_symbol(levels: &[u16], m: u64) -> Symbol
     ensures { result ≡ symbol_answer levels.now m }
 {
-    read_symbol(levels, m)
+    Symbol::from(read_symbol(levels, m))
 }
 
 #[unsafe(no_mangle)]
@@ -162,7 +162,7 @@ pub extern "C" fn tm_prefix_uneven(n: usize, weights: &[u16], m: u64, symbol: u6
     ensures answer { result ≡ uneven_prefix n weights.now m symbol }
     ensures by_code { result.number ≡ 0 → PrefixBy n weights.now symbol (take result.length result.cells) }
 {
-    prefix_uneven(n, weights, m, symbol)
+    Prefixed::from(prefix_uneven(n, weights, m, symbol))
 }
 
 #[unsafe(no_mangle)]
@@ -177,7 +177,7 @@ pub extern "C" fn tm_store_uneven(
     ensures stored { result.number ≡ 0 → UnevenStored levels.old weights.now m symbol levels.new result.pushes }
     ensures spent { Spends levels.old levels.new result.charge }
 {
-    store_uneven(levels, weights, m, symbol)
+    Pushes::from(store_uneven(levels, weights, m, symbol))
 }
 
 #[unsafe(no_mangle)]
@@ -186,7 +186,7 @@ pub extern "C" fn tm_read_uneven(levels: &[u16], weights: &[u16], m: u64) -> Sym
     ensures by_code { result.number ≡ 0 → SymbolBy (length levels.now) weights.now (permutation_of levels.now) result.symbol }
     ensures none { result.number ≡ idle → IdleBy (length levels.now) weights.now (permutation_of levels.now) }
 {
-    read_uneven(levels, weights, m)
+    Symbol::from(read_uneven(levels, weights, m))
 }
 
 #[unsafe(no_mangle)]
@@ -194,7 +194,7 @@ pub extern "C" fn tm_read_bands(lowest: &[u16], highest: &[u16]) -> Permuted
     ensures answer { result ≡ sure_answer lowest.now highest.now }
     ensures exactly { OrderExactly lowest.now highest.now result }
 {
-    read_bands(lowest, highest)
+    Permuted::from(read_bands(lowest, highest))
 }
 
 #[unsafe(no_mangle)]
@@ -202,7 +202,7 @@ pub extern "C" fn tm_read_symbol_bands(lowest: &[u16], highest: &[u16], m: u64) 
     ensures answer { result ≡ sure_symbol_answer lowest.now highest.now m }
     ensures exactly { SymbolExactly lowest.now highest.now m result }
 {
-    read_symbol_bands(lowest, highest, m)
+    Symbol::from(read_symbol_bands(lowest, highest, m))
 }
 
 #[unsafe(no_mangle)]
@@ -211,7 +211,7 @@ pub extern "C" fn tm_within_reach(levels: &[u16], r: usize, list: &mut [u8]) -> 
     ensures list_left { list.new ≡ reach_list levels.now r list.old }
     ensures reaching { ReachOf levels.now r result list.new }
 {
-    within_reach(levels, r, list)
+    Reached::from(within_reach(levels, r, list))
 }
 
 #[unsafe(no_mangle)]
@@ -226,7 +226,7 @@ pub extern "C" fn tm_rearrange(
     ensures list_left { list.new ≡ rearrange_list q z old.now new.now list.old }
     ensures least { RaiseOf q old.now new.now result list.new }
 {
-    rearrange(q, z, old, new, list)
+    Rearranged::from(rearrange(q, z, old, new, list))
 }
 
 #[unsafe(no_mangle)]
@@ -235,7 +235,7 @@ pub extern "C" fn tm_bench(sheet: &[u8], text: &mut [u8]) -> Printed
     ensures text_left { text.new ≡ printed_on (text_of (contents sheet.now)) text.old }
     ensures fits { text_bound ≤ length text.old → result.number ≡ 0 }
 {
-    bench(sheet, text)
+    Printed::from(bench(sheet, text))
 }
 
 #[unsafe(no_mangle)]
@@ -253,5 +253,5 @@ pub extern "C" fn tm_write_sheet(
     ensures out_left { out.new ≡ lists_on (lists sizes.now levels.now zeros.now kinds.now groups.now numbers.now names.now) out.old }
     ensures round_trips { lists_number (lists sizes.now levels.now zeros.now kinds.now groups.now numbers.now names.now) ≡ 0 → RoundTrips (held_in (lists sizes.now levels.now zeros.now kinds.now groups.now numbers.now names.now)) out.old result out.new }
 {
-    write_lists(sizes, levels, zeros, kinds, groups, numbers, names, out)
+    Written::from(write_lists(sizes, levels, zeros, kinds, groups, numbers, names, out))
 }

@@ -14,13 +14,11 @@ use Rattle.theory.proofs.Factorials.{factorial_pos}
 use Rattle.theory.proofs.Names.{names_length}
 use Rattle.theory.proofs.Numbering.{prefix_of, number_of, number_of_below, prefix_of_number_of}
 use Rattle.theory.proofs.Prefixes.{names_distinct, prefix_at_digits}
-use Rattle.ranking.specs.Factorials.{factorial_table}
-use Rattle.ranking.proofs.Table.{table_at}
 use Rattle.symbols.specs.declared.answers.Prefixed.{Prefixed}
 use Rattle.symbols.proofs.PrefixRows.{with_others}
 use Rattle.prefixcodes.specs.Construction.{heavy_first, best_lengths, best_prefixes, index_of, code_prefix}
 use Rattle.prefixcodes.specs.Leaves.{leaves}
-use Rattle.uneven.specs.Codebook.{HasCode, HoldsSorted, HasTails, PlanAsked, PlanGiven, HoldsCode, symbol_row}
+use Rattle.uneven.specs.Codebook.{HasCode, HoldsSorted, PlanGiven, HoldsCode, symbol_row}
 use Rattle.uneven.specs.declared.lengths.Plan.{Plan}
 use Rattle.prefixcodes.proofs.Better.{ShortToLong}
 use Rattle.prefixcodes.proofs.LedBlock.{first_number_lem}
@@ -33,29 +31,14 @@ use Rattle.uneven.proofs.AheadCount.{index_within}
 pub heavy_many : {n : ℕ} {ws : List ℕ} → HasCode n ws → (heavy : List ℕ) → length heavy ≡ 64 → length (take (length ws) heavy) ≡ length ws
 heavy_many {n} {ws} v heavy long = length-take-le (length ws) heavy (omega (arith, v.most))
 
-module _ {n : ℕ} {ws table symbols heavy : List ℕ} (v : HasCode n ws) (t : table ≡ factorial_table) (s : HoldsSorted ws symbols heavy) (long : length heavy ≡ 64) where
+module _ {n all : ℕ} {ws symbols heavy : List ℕ} (v : HasCode n ws) (all_is : all ≡ factorial n) (s : HoldsSorted ws symbols heavy) (long : length heavy ≡ 64) where
   abbrev weights : List ℕ
   weights = take (length ws) heavy
 
   many : length weights ≡ length ws
   many = heavy_many v heavy long
 
-  all : get_or table n 0 ≡ factorial n
-  all = table_at t n (omega (arith, v.many))
-
-  pub plan_asked : {tails : List ℕ} → HasTails weights tails → PlanAsked table n (n - 1) weights tails 0 (get_or table n 0)
-  plan_asked h = record {
-    table_is = t;
-    some = omega (arith, v.few);
-    below = omega (arith, v.few);
-    many = v.many;
-    few = omega (arith, many, v.most);
-    tails_are = h;
-    within = omega arith;
-    room = omega (arith, many, all, v.fits);
-  }
-
-  pub codes_held : {r : Plan} → length symbols ≡ 64 → PlanGiven n (n - 1) weights 0 (get_or table n 0) r → HoldsCode n ws symbols r.lengths
+  pub codes_held : {r : Plan} → length symbols ≡ 64 → PlanGiven n (n - 1) weights 0 all r → HoldsCode n ws symbols r.lengths
   unfolding best_lengths
   codes_held long_symbols g =
       let count : length weights - 0 ≡ length ws = omega (arith, many) in
@@ -63,7 +46,7 @@ module _ {n : ℕ} {ws table symbols heavy : List ℕ} (v : HasCode n ws) (t : t
         symbols_long = long_symbols;
         lengths_long = g.long;
         symbols_are = s.symbols_are;
-        lengths_are = rw (count, s.heavy_are, all) at g.lengths_are;
+        lengths_are = rw (count, s.heavy_are, all_is) at g.lengths_are;
       }
 
 -- ---- a symbol's prefix by them
@@ -147,24 +130,22 @@ module _ {n : ℕ} {ws symbols lengths : List ℕ} (v : HasCode n ws) (holds : H
     prefix_length_lem = here.size
 
     -- by what the code has worked out
-    module _ {table : List ℕ} (t : table ≡ factorial_table) {p led : ℕ} (p_is : p ≡ l) (led_is : led ≡ before) where
+    module _ {p : ℕ} (p_is : p ≡ l) where
       pub prefix_short : p < n
       prefix_short = omega (arith, length_short k place)
 
-      unit_found : get_or table (n - p) 0 ≡ factorial (n - l)
-      unit_found = rw p_is (table_at t (n - l) (omega (arith, v.many)))
+      module _ {led unit : ℕ} (led_is : led ≡ before) (unit_is : unit ≡ factorial (n - p)) where
+        pub unit_some : 0 < unit
+        unit_some = rw unit_is (factorial_pos (n - p))
 
-      pub unit_some : 0 < get_or table (n - p) 0
-      unit_some = rw unit_found (factorial_pos (n - l))
+        quotient : led / unit ≡ before / factorial (n - l)
+        quotient = rw (led_is, unit_is, p_is) refl
 
-      quotient : led / get_or table (n - p) 0 ≡ before / factorial (n - l)
-      quotient = rw (led_is, unit_found) refl
+        pub quotient_fits : led / unit < falling n p
+        quotient_fits = rw (quotient, p_is) number_fits
 
-      pub quotient_fits : led / get_or table (n - p) 0 < falling n p
-      quotient_fits = rw (quotient, p_is) number_fits
-
-      pub row_found : {cells : List ℕ} → cells ≡ row (with_others n (prefix_at n p (led / get_or table (n - p) 0)))
-          → ◌≡◌ {A = Prefixed} (record { number = 0; length = p; cells = cells }) (symbol_row n ws s)
-      row_found c =
-          let found : prefix_at n p (led / get_or table (n - p) 0) ≡ code_prefix n ws s = rw (quotient, p_is) prefix_found in
-          rw (c, found, prefix_length_lem, p_is) refl
+        pub row_found : {cells : List ℕ} → cells ≡ row (with_others n (prefix_at n p (led / unit)))
+            → ◌≡◌ {A = Prefixed} (record { number = 0; length = p; cells = cells }) (symbol_row n ws s)
+        row_found c =
+            let found : prefix_at n p (led / unit) ≡ code_prefix n ws s = rw (quotient, p_is) prefix_found in
+            rw (c, found, prefix_length_lem, p_is) refl

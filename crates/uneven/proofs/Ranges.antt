@@ -1,5 +1,5 @@
 -- The numbers of the jobs with weights, by the tests that the code makes. Assumes nothing.
-use mathlib.Core.Path.{◌≡◌, sym}
+use mathlib.Core.Path.{◌≡◌}
 use mathlib.Core.Bool.{true, cond, ◌&&◌, and-false, and-eq-true_iff}
 use mathlib.Core.List.{List}
 use Prim.Native.Nat.{ℕ, ◌≤◌, ◌<◌}
@@ -25,6 +25,9 @@ module _ (n entries m : ℕ) where
   unfolding misfit
   too_many h = rw (lt-leb n 8 h, and-false (leb 2 n))
 
+  pub misfit_out : (2 ≤ n → n ≤ 8 → ⊥) → size ≡ misfit n entries m
+  misfit_out h = by_le 2 n (λ few. by_le n 8 (λ many. absurd (h few many)) too_many) too_few
+
   module _ (few : 2 ≤ n) (many : n ≤ 8) where
     pub no_fit : (entries ≡ m → ⊥) → fit ≡ misfit n entries m
     unfolding misfit
@@ -39,9 +42,6 @@ pub record Fitting (n : ℕ) (ws : List ℕ) (m : ℕ) : Type 0 where
   pub few : 2 ≤ n
   pub many : n ≤ 8
   pub entries : length ws ≡ m
-
-pub fitting_done : {n m : ℕ} {ws : List ℕ} → Fitting n ws m → misfit n (length ws) m ≡ done
-fitting_done {n} {m} {ws} v = sym (all_fit n (length ws) m v.few v.many v.entries)
 
 pub fitting : {n m : ℕ} {ws : List ℕ} → misfit n (length ws) m ≡ done → Fitting n ws m
 fitting {n} {m} {ws} h =
@@ -80,6 +80,12 @@ module _ (n m : ℕ) where
       unfolding in_range
       range_done h = rw (le-leb 2 m low, le-leb m 64 high, le-leb m (factorial n) h)
 
+  pub range_out : (2 ≤ m → m ≤ 64 → m ≤ factorial n → ⊥) → value ≡ range_of n m
+  range_out h =
+      by_le 2 m
+      (λ low. by_le m 64 (λ high. by_le m (factorial n) (λ most. absurd (h low high most)) (λ l. range_past low high l)) (λ l. range_high low l))
+      range_low
+
   range_bounds : in_range n m ≡ true → (m ≤ 64) × (m ≤ factorial n)
   unfolding in_range
   range_bounds h =
@@ -108,10 +114,6 @@ module _ (n m : ℕ) where
 -- nor do these
 pub range_only : (n m : ℕ) {k : ℕ} → (k ≡ value → ⊥) → range_of n m ≡ k → k ≡ 0
 range_only n m a h = test_only (in_range n m) a h
-
-pub symbol_only : (n m s : ℕ) {k : ℕ} → (k ≡ value → ⊥) → symbol_range n m s ≡ k → k ≡ 0
-unfolding symbol_range
-symbol_only n m s a h = or_else_only (range_of n m) (cond (ltb s m) done value) (range_only n m a) (test_only (ltb s m) a) h
 
 -- there is a code for the weights
 pub has_code : {n m : ℕ} {ws : List ℕ} → Fitting n ws m → range_of n m ≡ done → HasCode n ws

@@ -11,7 +11,6 @@ use lib.Seq.{drop-cons, get_or-set_same, drop-set-lt}
 use Rattle.theory.specs.Factorial.{factorial}
 use Rattle.theory.proofs.Cases.{by_le}
 use Rattle.prefixcodes.specs.Construction.{dot, layer, plan}
-use Rattle.ranking.proofs.Table.{table_at}
 use Rattle.uneven.specs.Codebook.{sum_of, PlanAsked, PlanGiven}
 use Rattle.uneven.specs.declared.lengths.Plan.{Plan}
 use Rattle.uneven.proofs.Totals.{factorial_small}
@@ -59,10 +58,6 @@ module _ (n h b k : ℕ) (heavy : List ℕ) (some : 1 ≤ h) where
         by_le (length heavy) k
         (λ l. let none : length heavy - k ≡ 0 = omega arith in absurd (omega (arith, rw none at less)))
         (λ l. l)
-
-    deeper_some : length heavy - k ≤ b → 2 ≤ h
-    deeper_some room =
-        by_le 2 h (λ l. l) (λ l. let one : h ≡ 1 = omega arith in let u : factorial h ≡ 1 = rw one refl in absurd (omega (arith, rw u at less)))
 
     cut : drop k heavy ≡ get_or heavy k 0 ∷ drop (k + 1) heavy
     cut = rw (add-one k) (drop-cons heavy k 0 within)
@@ -143,22 +138,7 @@ row_first row k m l h i =
 
 -- ---- a call of `plan_lengths`
 
-module _ {table : List ℕ} {n h : ℕ} {heavy tails : List ℕ} {k b : ℕ} (v : PlanAsked table n h heavy tails k b) where
-  -- what one prefix of length n - h takes
-  abbrev u : ℕ
-  u = get_or table h 0
-
-  unit : u ≡ factorial h
-  unit = table_at v.table_is h (omega (arith, v.below, v.many))
-
-  pub unit_small : u ≤ 40320
-  unit_small = rw unit (factorial_small h (omega (arith, v.below, v.many)))
-
-  pub product_small : (length heavy - k) * u ≤ 2580480
-  product_small =
-      let few : (length heavy - k) * u ≤ 64 * u = mul-le-mul_right u (omega (arith, v.few)) in
-      omega (arith, unit_small)
-
+module _ {n h : ℕ} {heavy tails : List ℕ} {k b : ℕ} (v : PlanAsked n h heavy tails k b) where
   -- the sum, where all get one length
   pub tail_small : get_or tails k 0 * (n - h) ≤ 16711425 * (length heavy - k)
   tail_small =
@@ -166,6 +146,16 @@ module _ {table : List ℕ} {n h : ℕ} {heavy tails : List ℕ} {k b : ℕ} (v 
       let low : get_or tails k 0 * (n - h) ≤ get_or tails k 0 * 255 = mul-le-mul_left (get_or tails k 0) (omega (arith, v.many)) in
       let high : get_or tails k 0 * 255 ≤ 65535 * x * 255 = mul-le-mul_right 255 (v.tails_are.small k v.within) in
       omega arith
+
+-- u is what one prefix of length n - h takes
+module _ {n h : ℕ} {heavy tails : List ℕ} {k b : ℕ} (v : PlanAsked n h heavy tails k b) {u : ℕ} (unit : u ≡ factorial h) where
+  pub unit_small : u ≤ 40320
+  unit_small = rw unit (factorial_small h (omega (arith, v.below, v.many)))
+
+  pub product_small : (length heavy - k) * u ≤ 2580480
+  product_small =
+      let few : (length heavy - k) * u ≤ 64 * u = mul-le-mul_right u (omega (arith, v.few)) in
+      omega (arith, unit_small)
 
   pub given_all : (length heavy - k) * u ≤ b → PlanGiven n h heavy k b (record { cost = get_or tails k 0 * (n - h); lengths = replicate 64 (n - h) })
   given_all room =
@@ -179,7 +169,7 @@ module _ {table : List ℕ} {n h : ℕ} {heavy tails : List ℕ} {k b : ℕ} (v 
             ∙ sym (dot_same (drop k heavy) (n - h))
             ∙ ap (λ (y : ℕ). dot (drop k heavy) (replicate y (n - h))) (length-drop k heavy)
             ∙ ap (dot (drop k heavy)) (sym all);
-        cost_fits = tail_small;
+        cost_fits = tail_small v;
       }
 
   -- they do not all fit at this length
@@ -190,20 +180,6 @@ module _ {table : List ℕ} {n h : ℕ} {heavy tails : List ℕ} {k b : ℕ} (v 
     pub inside : k < length heavy
     inside = within n h b k heavy v.some over
 
-    pub asked_deeper : PlanAsked table n (h - 1) heavy tails k b
-    asked_deeper =
-        let two = deeper_some n h b k heavy v.some over v.room in
-        record {
-          table_is = v.table_is;
-          some = omega arith;
-          below = omega (arith, v.below);
-          many = v.many;
-          few = v.few;
-          tails_are = v.tails_are;
-          within = v.within;
-          room = v.room;
-        }
-
     pub given_none : {d : Plan} → b < length heavy - k - 1 + u → PlanGiven n (h - 1) heavy k b d → PlanGiven n h heavy k b d
     given_none l g =
         let e = plan_none n h b k heavy v.some over (rw unit at l) in
@@ -211,18 +187,6 @@ module _ {table : List ℕ} {n h : ℕ} {heavy tails : List ℕ} {k b : ℕ} (v 
 
     -- the first can have it
     module _ (room : length heavy - k - 1 + u ≤ b) where
-      pub asked_next : PlanAsked table n h heavy tails (k + 1) (b - u)
-      asked_next = record {
-        table_is = v.table_is;
-        some = v.some;
-        below = v.below;
-        many = v.many;
-        few = v.few;
-        tails_are = v.tails_are;
-        within = omega (arith, inside);
-        room = omega (arith, inside);
-      }
-
       -- in d all have longer ones, and in f those behind the first are planned
       module _ {d f : Plan} {x : ℕ} (deep : PlanGiven n (h - 1) heavy k b d) (next : PlanGiven n h heavy (k + 1) (b - u) f)
           (e : x ≡ get_or heavy k 0 * (n - h)) where

@@ -1,11 +1,11 @@
 -- Sums of weights from each index on, filled from the last. Assumes nothing.
 use mathlib.Core.Path.{◌≡◌, refl, sym, ap, ◌∙◌}
-use mathlib.Core.List.{List}
+use mathlib.Core.List.{List, [], ◌∷◌, ◌++◌, append-nil}
 use Prim.Native.Nat.{ℕ, suc, ◌+◌, ◌-◌, ◌*◌, ◌≤◌, ◌<◌}
 use native.Mathlib.Omega.{arith}
 use native.Mathlib.Nat.{mul-le-mul_left, mul-le-mul_right}
-use lib.ListN.{length, get_or, drop, set, replicate, length-set, get_or-replicate}
-use lib.Seq.{drop-cons, drop-length, get_or-set_same, get_or-set_other}
+use lib.ListN.{length, get_or, drop, set, replicate, length-set, length-append, get_or-replicate}
+use lib.Seq.{append_snoc, get_or-append-add, drop-cons, drop-length, get_or-set_same, get_or-set_other}
 use Rattle.theory.proofs.Cases.{by_order}
 use Rattle.uneven.specs.Codebook.{sum_of, HasTails}
 
@@ -55,6 +55,45 @@ module _ {heavy tails : List ℕ} {i : ℕ} (v : TailsFrom heavy tails i) where
 
   pub tails_all : i ≤ 0 → HasTails heavy tails
   tails_all h = record { long = v.long; is = λ j k. v.is j (omega arith) k; small = λ j k. v.small j (omega arith) k }
+
+-- the same, by the weights that are left to add
+pub record TailsLeft (heavy tails rest : List ℕ) : Type 0 where
+  pub behind : List ℕ
+  pub parts : heavy ≡ rest ++ behind
+  pub filled : TailsFrom heavy tails (length rest)
+
+pub left_all : {heavy rest : List ℕ} → length heavy ≤ 64 → rest ≡ heavy → TailsLeft heavy (replicate 65 0) rest
+left_all {heavy} few e = record { behind = []; parts = rw e (sym (append-nil heavy)); filled = rw e (tails_none heavy few) }
+
+module _ {heavy tails rest : List ℕ} (v : TailsLeft heavy tails rest) (bounded : (i : ℕ) → get_or heavy i 0 ≤ 65535) (left : List ℕ) (w : ℕ) (next : rest ≡ left ++ w ∷ []) where
+  left_long : length rest - 1 ≡ length left
+  left_long = rw (next, length-append) (omega arith)
+
+  some : 0 < length rest
+  some = rw (next, length-append) (omega arith)
+
+  parts_next : heavy ≡ left ++ w ∷ v.behind
+  parts_next = v.parts ∙ rw next (append_snoc left w v.behind)
+
+  weight_is : w ≡ get_or heavy (length rest - 1) 0
+  weight_is =
+      let here : length left + 0 ≡ length left = omega arith in
+      sym (rw (left_long, parts_next) (rw here at (get_or-append-add left (w ∷ v.behind) 0 0)))
+
+  small : w ≤ 65535
+  small = rw weight_is (bounded (length rest - 1))
+
+  pub left_index : {i count : ℕ} → i ≡ count + length left → count ≡ 0 → (i ≡ length left) × (i < 64)
+  left_index e none = (omega arith, omega (arith, left_long, some, v.filled.within, v.filled.few))
+
+  -- the last of them
+  pub left_more : TailsLeft heavy (set tails (length left) (get_or tails (length left + 1) 0 + w)) left
+  left_more =
+      let long : length rest ≡ length left + 1 = omega (arith, left_long, some) in
+      record { behind = w ∷ v.behind; parts = parts_next; filled = rw (← long, ← left_long) (tails_more v.filled some weight_is small) }
+
+pub left_none : {heavy tails rest : List ℕ} → TailsLeft heavy tails rest → length rest ≡ 0 → HasTails heavy tails
+left_none v e = tails_all v.filled (omega arith)
 
 -- a weight times a length
 pub product_small : (w l : ℕ) → w ≤ 65535 → l ≤ 255 → w * l ≤ 16711425

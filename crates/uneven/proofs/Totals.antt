@@ -8,8 +8,6 @@ use lib.ListN.{length, take, get_or}
 use lib.Seq.{length-take-le, take-suc, take-take}
 use Rattle.theory.specs.Factorial.{factorial}
 use Rattle.theory.proofs.Factorials.{factorial_grows}
-use Rattle.ranking.specs.Factorials.{factorial_table}
-use Rattle.ranking.proofs.Table.{table_at}
 use Rattle.prefixcodes.specs.Leaves.{leaves}
 use Rattle.uneven.specs.Codebook.{IndexLed}
 
@@ -33,10 +31,7 @@ pub record Led (n : ℕ) (lengths : List ℕ) (k led i : ℕ) : Type 0 where
 pub led_none : (n k : ℕ) (lengths : List ℕ) → Led n lengths k 0 0
 led_none n k lengths = record { within = omega arith; small = omega arith; is = refl }
 
--- u more, which the table gives
-pub unit_is : {table : List ℕ} → table ≡ factorial_table → (n l : ℕ) → n ≤ 8 → {x : ℕ} → x ≡ l → get_or table (n - x) 0 ≡ factorial (n - l)
-unit_is t n l many {x} e = rw e (table_at t (n - l) (omega arith))
-
+-- u more
 module _ (n : ℕ) (lengths : List ℕ) {k led i : ℕ} (v : Led n lengths k led i) (many : n ≤ 8) {u : ℕ} (e : u ≡ factorial (n - get_or lengths i 0)) where
   pub unit_small : u ≤ 40320
   unit_small = rw e (factorial_small (n - get_or lengths i 0) (omega arith))

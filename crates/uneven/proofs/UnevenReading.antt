@@ -1,5 +1,5 @@
 -- Reading a weighted symbol: what each way out answers, and whose prefix leads. Assumes nothing.
-use mathlib.Core.Path.{◌≡◌, sym, ap, ◌∙◌}
+use mathlib.Core.Path.{◌≡◌, refl, sym, ap, ◌∙◌}
 use mathlib.Core.List.{List}
 use Prim.Native.Nat.{ℕ, ◌≤◌}
 use native.Mathlib.Omega.{arith}
@@ -15,6 +15,11 @@ use Rattle.permutation.specs.declared.answers.Permutation.{Permutation}
 use Rattle.permutation.proofs.Records.{fault_record}
 use Rattle.permutation.proofs.Answering.{list_record}
 use Rattle.symbols.specs.declared.answers.Symbol.{Symbol}
+use Rattle.permutation.specs.declared.reasons.Refusal.{Refusal}
+use Rattle.std.specs.Result.{IfOk}
+use Rattle.std.proofs.Common.{Result, Ok, Err}
+use Rattle.permutation.specs.Refusals.{number_in}
+use Rattle.symbols.specs.Answers.{as_symbol}
 use Rattle.symbols.proofs.Symbols.{symbol_with}
 use Rattle.prefixcodes.specs.Construction.{code_symbol}
 use Rattle.prefixcodes.specs.Claims.{SymbolBy, IdleBy, CodeClaims}
@@ -33,6 +38,11 @@ module _ (L ws : List ℕ) {r : Permutation} (few : 2 ≤ length L) (many : leng
 
   pub record_read : {a : Symbol} → a ≡ uneven_read r.n ws (list_of r) → a ≡ uneven_read (length L) ws (permutation_of L)
   record_read e = e ∙ rw (is, list_record (length L) (permutation_of L) few many (permutation_of_permutation L), permutation_of_length L)
+
+-- what is said of the symbol of a job that is done, by its number
+if_done : (P : ℕ → Type 0) (r : Result ℕ Refusal) → ((as_symbol r).number ≡ 0 → P (as_symbol r).symbol) → IfOk r P
+if_done P (Ok s) h = h refl
+if_done P (Err e) h = tt
 
 -- ---- the job
 module _ (L ws : List ℕ) (m : ℕ) where
@@ -98,8 +108,10 @@ module _ (L ws : List ℕ) (m : ℕ) where
         let p = past (λ q. omega arith) (λ q. omega arith) (λ q. omega arith) (λ q. omega arith) (sym number_is ∙ z) in
         (claims p.0).idle xs (ltb-false (code_symbol n ws xs) (length ws) (test_failed _ idle (λ q. omega arith) p.1))
 
-    pub answered : (a ≡ uneven_symbol L ws m) × ((a.number ≡ 0 → SymbolBy n ws xs a.symbol) × (a.number ≡ idle → IdleBy n ws xs))
-    answered = (e, (symbol_by, idle_by))
+  -- what the contract says of an answer
+  pub answered : (r : Result ℕ Refusal) → as_symbol r ≡ uneven_symbol L ws m
+      → (as_symbol r ≡ uneven_symbol L ws m) × IfOk r (SymbolBy n ws xs) × (number_in r ≡ idle → IdleBy n ws xs)
+  answered r e = (e, if_done (SymbolBy n ws xs) r (symbol_by e), idle_by e)
 
   pub symbol_refused : {number : ℕ} → number ≡ read_uneven_number L ws m → (number ≡ 0 → ⊥) → symbol_with number 0 ≡ uneven_symbol L ws m
   unfolding uneven_symbol

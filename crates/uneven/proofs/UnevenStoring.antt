@@ -1,30 +1,32 @@
 -- Storing a weighted symbol: what each way out answers, and what the levels then are read as. Assumes nothing.
-use mathlib.Core.Path.{◌≡◌, sym, ap, ◌∙◌}
+use mathlib.Core.Path.{◌≡◌, refl, sym, ap, ◌∙◌}
 use mathlib.Core.List.{List, ◌++◌}
 use Prim.Native.Nat.{ℕ}
 use native.Mathlib.Omega.{arith}
 use borrow.Author.Tests.{ne_eqb, lt-ltb}
 use lib.ListN.{length, take}
-use Rattle.theory.specs.Reasons.{value}
 use Rattle.theory.specs.Lists.{without}
 use Rattle.theory.specs.Levels.{read_number, permutation_of, push_levels}
 use Rattle.theory.specs.Store.{store_pushes}
 use Rattle.theory.specs.Spent.{Spends}
-use Rattle.theory.proofs.Refusal.{given_done, or_else_done, or_else_past, readable, read_done, Readable}
-use Rattle.theory.proofs.Cases.{by_name}
+use Rattle.theory.proofs.Refusal.{given_done, or_else_done, readable, read_done, Readable}
 use Rattle.theory.proofs.Reading.{row_length}
 use Rattle.theory.proofs.Prefixes.{begins_append}
 use Rattle.charge.specs.Answers.{no_pushes}
 use Rattle.charge.specs.declared.answers.Pushes.{Pushes}
-use Rattle.symbols.specs.Answers.{lead_number, lead_answer, lead_levels}
-use Rattle.symbols.specs.AnyPrefix.{PrefixRow}
+use Rattle.symbols.specs.Answers.{as_prefixed, lead_number, lead_answer, lead_levels}
+use Rattle.permutation.specs.Refusals.{number_in}
+use Rattle.permutation.specs.declared.reasons.Refusal.{Refusal}
+use Rattle.std.specs.Result.{IfOk}
+use Rattle.std.proofs.Common.{Result, Ok, Err}
+use Rattle.symbols.specs.AnyPrefix.{PrefixRow, FoundAs}
+use Rattle.symbols.specs.declared.answers.Prefix.{Prefix}
 use Rattle.symbols.specs.declared.answers.Prefixed.{Prefixed}
 use Rattle.symbols.proofs.PrefixRows.{row_front, row_stored}
 use Rattle.symbols.proofs.Storing.{Led, prefix_readable, prefix_left, lead_spends, not_done}
-use Rattle.prefixcodes.specs.Construction.{code_prefix, code_symbol}
+use Rattle.prefixcodes.specs.Construction.{code_symbol}
 use Rattle.uneven.specs.Answers.{misfit, symbol_range, uneven_on, uneven_store, uneven_levels, read_uneven_number, uneven_symbol, UnevenStored}
 use Rattle.uneven.specs.Codebook.{uneven_row}
-use Rattle.uneven.proofs.Ranges.{misfit_only, symbol_only}
 use Rattle.prefixcodes.proofs.Claims.{code_read_lem}
 use Rattle.uneven.proofs.UnevenRows.{Coded, coded, its_claims, its_prefix, its_length, row_number, found_coded, found_length, found_cells}
 
@@ -92,34 +94,29 @@ module _ (L ws : List ℕ) (m s : ℕ) where
       ),
     )
 
--- by the row that was found
-module _ (L ws : List ℕ) (m s : ℕ) {found : Prefixed} (e : found ≡ uneven_row (length L) ws m s) where
-  -- refused by size or fit
-  pub found_misfit : (found.number ≡ value → ⊥) → (found.number ≡ 0 → ⊥) → found.number ≡ misfit (length L) (length ws) m
-  found_misfit other some =
-      let is = row_number (length L) ws m s e in
-      by_name (misfit (length L) (length ws) m) 0
-      (λ z t. absurd (some (symbol_only (length L) m s other (sym (rw t at is)))))
-      (λ ne t. rw t at is)
-
-  pub found_value : found.number ≡ value → (misfit (length L) (length ws) m ≡ 0) × (symbol_range (length L) m s ≡ value)
-  found_value z =
-      or_else_past (misfit (length L) (length ws) m) (symbol_range (length L) m s)
-      (misfit_only (length L) (length ws) m (λ q. omega arith) (λ q. omega arith)) (sym (row_number (length L) ws m s e) ∙ z)
-
-  module _ (z : found.number ≡ 0) where
+-- by what the row was found to be
+module _ (L ws : List ℕ) (m s : ℕ) where
+  -- found
+  module _ {found : Prefixed} (e : found ≡ uneven_row (length L) ws m s) (z : found.number ≡ 0) where
     v : Coded (length L) ws m s
     v = found_coded (length L) ws m s e z
 
-    pub found_stored : PrefixRow L found.cells found.length
+    found_stored : PrefixRow L found.cells found.length
     found_stored =
         rw (found_cells (length L) ws m s e z, found_length (length L) ws m s e z)
         (row_stored v.code.few (omega (arith, v.code.many)) (its_prefix v) (its_length v))
 
-    pub found_done : {a : Pushes} {L' : List ℕ} → Led 0 L (take found.length found.cells) a L' → Answered L ws m s a L'
-    found_done {a} {L'} k =
-        let done = or_else_done (misfit (length L) (length ws) m) (symbol_range (length L) m s) (sym (row_number (length L) ws m s e) ∙ z) in
-        let front : take found.length found.cells ≡ code_prefix (length L) ws s =
-        rw (found_cells (length L) ws m s e z, found_length (length L) ws m s e z) (row_front (its_prefix v)) in
-        let led : Led (symbol_range (length L) m s) L (code_prefix (length L) ws s) a L' = rw done.1 (rw front at k) in
-        store_led L ws m s done.0 led
+    found_front : take found.length found.cells ≡ uneven_on L ws s
+    found_front = rw (found_cells (length L) ws m s e z, found_length (length L) ws m s e z) (row_front (its_prefix v))
+
+  pub found_number : misfit (length L) (length ws) m ≡ 0 → (r : Result Prefix Refusal) → as_prefixed r ≡ uneven_row (length L) ws m s → number_in r ≡ symbol_range (length L) m s
+  found_number fits (Ok p) e = rw fits at (row_number (length L) ws m s e)
+  found_number fits (Err x) e = rw fits at (row_number (length L) ws m s e)
+
+  pub found_as : (r : Result Prefix Refusal) → as_prefixed r ≡ uneven_row (length L) ws m s → FoundAs r (uneven_on L ws s)
+  found_as (Ok p) e = found_front e refl
+  found_as (Err x) e = tt
+
+  pub found_row : (r : Result Prefix Refusal) → as_prefixed r ≡ uneven_row (length L) ws m s → IfOk r (λ p. PrefixRow L p.cells p.length)
+  found_row (Ok p) e = found_stored e refl
+  found_row (Err x) e = tt

@@ -4,7 +4,6 @@ use Rattle.theory.specs.Lists.{names, without}
 use Rattle.theory.specs.Factorial.{factorial}
 use Rattle.theory.specs.Permutation.{row}
 use Rattle.theory.specs.Refusal.{given}
-use Rattle.ranking.specs.Factorials.{factorial_table}
 use Rattle.symbols.specs.declared.answers.Symbol.{Symbol}
 use Rattle.symbols.specs.declared.answers.Prefixed.{Prefixed}
 use Rattle.prefixcodes.specs.Code.{weight_of}
@@ -42,8 +41,7 @@ pub record HasTails (heavy tails : List ℕ) : Type 0 where
   pub small : (i : ℕ) → i ≤ length heavy → get_or tails i 0 ≤ 65535 * (length heavy - i)
 
 -- lengths from n - h on are wanted for the weights from index k on, with b permutations left
-pub record PlanAsked (table : List ℕ) (n h : ℕ) (heavy tails : List ℕ) (k b : ℕ) : Type 0 where
-  pub table_is : table ≡ factorial_table
+pub record PlanAsked (n h : ℕ) (heavy tails : List ℕ) (k b : ℕ) : Type 0 where
   pub some : 1 ≤ h
   pub below : h < n
   pub many : n ≤ 8

@@ -16,66 +16,61 @@ use Rattle.theory.proofs.Padding.{padded_length, padded_at, zeros_past}
 use Rattle.theory.proofs.InTurn as turns
 use Rattle.theory.proofs.InTurn.{left_append, answers_append, left_keeps}
 use Rattle.theory.proofs.Zero.{zero_changed}
-use Rattle.ranking.specs.declared.zero.Zero.TheVariants.{New}
+use Rattle.ranking.specs.declared.zero.Zero.TheVariants.{Old, New}
 use Rattle.charge.specs.Answers.{done_pushes}
 use Rattle.charge.specs.declared.answers.Pushes.{Pushes}
-use Rattle.sheet.specs.ZeroSection.{on_zero, on_old}
 use Rattle.sheet.specs.Sheet.{Contents, sheet}
 use Rattle.sheet.specs.Held.{groups_of, no_group, no_entry}
 use Rattle.sheet.specs.Claims.{Valid}
 use Rattle.sheet.proofs.InMemory.{groups_at}
 use Rattle.sheet.proofs.Claims.{sheets}
 use Rattle.sheet.specs.declared.held.Command.{Command}
-use Rattle.sheet.specs.declared.held.GroupZero.{GroupZero}
+use Rattle.ranking.specs.declared.zero.Zero.{Zero}
 use Rattle.sheet.specs.declared.held.Entry.{Entry}
 use Rattle.work.specs.Work.{job_zero, answer_to, groups_after, answers, groups_after_all, zeros_after, zeros_after_all, value_of, answers_of, groups_left, zeros_left, values_left}
-use Rattle.work.specs.Answers.{no_answer, outcome_of, work_answer}
+use Rattle.work.specs.Answers.{Worked, no_answer, outcome_of, work_answer}
 use Rattle.work.specs.Claims.{change, put_behind, with_change, ChangeOver, ChangeOf, ZeroChanges}
-use Rattle.work.specs.declared.answers.Worked.{Worked}
 use Rattle.work.proofs.Jobs.{job_new, job_same}
 use Rattle.work.proofs.Zipped.{zipped_at}
 use Rattle.work.proofs.Working.{answers_length, groups_after_all_length, zeros_after_all_length, zeros_length, values_length}
 
-abbrev on_new : GroupZero
-on_new = on_zero New
-
 -- ---- one command
 
 -- once on the new zero, a group stays there
-new_kept : (e : Entry) (zs : List GroupZero) (g : ℕ) → get_or zs g on_old ≡ on_new → get_or (zeros_after e zs) g on_old ≡ on_new
+new_kept : (e : Entry) (zs : List Zero) (g : ℕ) → get_or zs g Old ≡ New → get_or (zeros_after e zs) g Old ≡ New
 new_kept e zs g is =
     let at = e.command.group in
     by_name g at
     (λ q t.
-    let same : job_zero e.command.action (get_or zs at on_old) ≡ get_or zs at on_old = rw (← q, is) (job_new e.command.action) in
-    rw (same, set-get_or zs at on_old) is)
-    (λ ne t. get_or-set_other zs at g _ on_old ne ∙ is)
+    let same : job_zero e.command.action (get_or zs at Old) ≡ get_or zs at Old = rw (← q, is) (job_new e.command.action) in
+    rw (same, set-get_or zs at Old) is)
+    (λ ne t. get_or-set_other zs at g _ Old ne ∙ is)
 
 -- a kind 4 more, before a command or behind it
-new_carried : (e : Entry) (zs : List GroupZero) (g : ℕ) → g < length zs → zeros_after e (set zs g on_new) ≡ set (zeros_after e zs) g on_new
+new_carried : (e : Entry) (zs : List Zero) (g : ℕ) → g < length zs → zeros_after e (set zs g New) ≡ set (zeros_after e zs) g New
 new_carried e zs g h =
     let at = e.command.group in
     by_name at g
-    (λ q t. rw (q, get_or-set_same zs g on_new on_old h, job_new e.command.action) (set-set zs g on_new on_new ∙ sym (set-set zs g _ on_new)))
-    (λ ne t. rw (get_or-set_other zs g at on_new on_old ne) (set_comm zs g at on_new _ (λ q. ne (sym q))))
+    (λ q t. rw (q, get_or-set_same zs g New Old h, job_new e.command.action) (set-set zs g New New ∙ sym (set-set zs g _ New)))
+    (λ ne t. rw (get_or-set_other zs g at New Old ne) (set_comm zs g at New _ (λ q. ne (sym q))))
 
 -- ---- where a group is left on the new zero
 
-stays_in : (es : List Entry) (zs : List GroupZero) (g : ℕ) → get_or zs g on_old ≡ on_new → get_or (zeros_after_all zs es) g on_old ≡ on_new
+stays_in : (es : List Entry) (zs : List Zero) (g : ℕ) → get_or zs g Old ≡ New → get_or (zeros_after_all zs es) g Old ≡ New
 unfolding zeros_after_all
-stays_in es zs g = left_keeps zeros_after (λ ys. get_or ys g on_old ≡ on_new) (λ e ys. new_kept e ys g) es zs
+stays_in es zs g = left_keeps zeros_after (λ ys. get_or ys g Old ≡ New) (λ e ys. new_kept e ys g) es zs
 
-moved_in : (es : List Entry) (zs : List GroupZero) (g : ℕ) → g < length zs → (i : ℕ) → i < length es → (get_or es i no_entry).command ≡ (change g).command
-    → get_or (zeros_after_all zs es) g on_old ≡ on_new
+moved_in : (es : List Entry) (zs : List Zero) (g : ℕ) → g < length zs → (i : ℕ) → i < length es → (get_or es i no_entry).command ≡ (change g).command
+    → get_or (zeros_after_all zs es) g Old ≡ New
 unfolding zeros_after_all
 moved_in [] zs g h i less is = absurd (omega arith)
 moved_in (e ∷ es) zs g h zero less is =
     stays_in es (zeros_after e zs) g
-    (ap (λ (c : Command). get_or (set zs c.group (job_zero c.action (get_or zs c.group on_old))) g on_old) is ∙ get_or-set_same zs g on_new on_old h)
+    (ap (λ (c : Command). get_or (set zs c.group (job_zero c.action (get_or zs c.group Old))) g Old) is ∙ get_or-set_same zs g New Old h)
 moved_in (e ∷ es) zs g h (suc i) less is = moved_in es (zeros_after e zs) g (rw length-set h) i (omega arith) is
 
-kept_in : (es : List Entry) (zs : List GroupZero) (g : ℕ) → ((i : ℕ) → i < length es → (get_or es i no_entry).command ≡ (change g).command → ⊥)
-    → get_or (zeros_after_all zs es) g on_old ≡ get_or zs g on_old
+kept_in : (es : List Entry) (zs : List Zero) (g : ℕ) → ((i : ℕ) → i < length es → (get_or es i no_entry).command ≡ (change g).command → ⊥)
+    → get_or (zeros_after_all zs es) g Old ≡ get_or zs g Old
 unfolding zeros_after_all
 kept_in [] zs g none = refl
 kept_in (e ∷ es) zs g none =
@@ -83,9 +78,9 @@ kept_in (e ∷ es) zs g none =
     kept_in es (zeros_after e zs) g (λ i less is. none (suc i) (omega arith) is)
     ∙ by_name at g
     (λ q t.
-    let same = job_same e.command.action (get_or zs at on_old) (λ is. none 0 (omega arith) (λ k. record { group = q k; action = is k })) in
-    rw (same, set-get_or zs at on_old))
-    (λ ne t. get_or-set_other zs at g _ on_old (λ q. ne (sym q)))
+    let same = job_same e.command.action (get_or zs at Old) (λ is. none 0 (omega arith) (λ k. record { group = q k; action = is k })) in
+    rw (same, set-get_or zs at Old))
+    (λ ne t. get_or-set_other zs at g _ Old (λ q. ne (sym q)))
 
 -- ---- a sheet with a kind 4, beside the sheet without it
 
@@ -93,7 +88,7 @@ behind_length : {A : Type 0} (i : ℕ) (x : A) (xs : List A) → length (put_beh
 behind_length i x xs = omega (arith, length-append (take i xs) (x ∷ drop i xs), length-append (take i xs) (drop i xs), ap length (take-append-drop i xs))
 
 -- so before any commands, or behind them
-carried : (es : List Entry) (zs : List GroupZero) (g : ℕ) → g < length zs → left_by zeros_after es (set zs g on_new) ≡ set (left_by zeros_after es zs) g on_new
+carried : (es : List Entry) (zs : List Zero) (g : ℕ) → g < length zs → left_by zeros_after es (set zs g New) ≡ set (left_by zeros_after es zs) g New
 carried [] zs g h = refl
 carried (e ∷ es) zs g h = ap (left_by zeros_after es) (new_carried e zs g h) ∙ carried es (zeros_after e zs) g (rw length-set h)
 
@@ -111,11 +106,11 @@ padded_behind {A} room i z x xs le less =
 
 -- the value of a group that is left
 value_at : (c : Contents) → Valid c → (g : ℕ) → g < length c.groups
-    → get_or (padded 64 0 (values_left c)) g 0 ≡ value_of (get_or (zeros_left c) g on_old) (get_or (groups_left c) g [])
+    → get_or (padded 64 0 (values_left c)) g 0 ≡ value_of (get_or (zeros_left c) g Old) (get_or (groups_left c) g [])
 value_at c v g h =
     let groups = groups_after_all_length c.groups c.entries in
     padded_at 64 0 (values_left c) g (omega (arith, values_length c v))
-    ∙ zipped_at value_of (zeros_left c) (groups_left c) g (omega (arith, zeros_length c v)) (omega arith) on_old [] 0
+    ∙ zipped_at value_of (zeros_left c) (groups_left c) g (omega (arith, zeros_length c v)) (omega arith) Old [] 0
 
 module _ (c : Contents) (v : Valid c) (i : ℕ) (le : i ≤ length c.entries) (g : ℕ) (w : Valid (with_change i g c)) where
   abbrev es : List Entry
@@ -156,13 +151,13 @@ module _ (c : Contents) (v : Valid c) (i : ℕ) (le : i ≤ length c.entries) (g
       ∙ sym (left_append groups_after first rest c.groups)
       ∙ ap (λ (l : List Entry). left_by groups_after l c.groups) (take-append-drop i es)
 
-  zeros_are : zeros_left (with_change i g c) ≡ set (zeros_left c) g on_new
+  zeros_are : zeros_left (with_change i g c) ≡ set (zeros_left c) g New
   unfolding zeros_after_all
   zeros_are =
-      let so_far : List GroupZero = left_by zeros_after first c.zeros in
+      let so_far : List Zero = left_by zeros_after first c.zeros in
       left_append zeros_after first (change g ∷ rest) c.zeros
       ∙ carried rest so_far g (omega (arith, v.zeros, inside, zeros_after_all_length c.zeros first))
-      ∙ ap (λ (l : List GroupZero). set l g on_new)
+      ∙ ap (λ (l : List Zero). set l g New)
       (sym (left_append zeros_after first rest c.zeros) ∙ ap (λ (l : List Entry). left_by zeros_after l c.zeros) (take-append-drop i es))
 
   -- its zero is among those left
@@ -173,11 +168,11 @@ module _ (c : Contents) (v : Valid c) (i : ℕ) (le : i ≤ length c.entries) (g
   abbrev L : List ℕ
   L = get_or (groups_left c) g []
 
-  old_differs : get_or (zeros_left c) g on_old ≡ on_old → let n = (get_or (groups_of (groups_left c)).list g no_group).n in
+  old_differs : get_or (zeros_left c) g Old ≡ Old → let n = (get_or (groups_of (groups_left c)).list g no_group).n in
       get_or (padded 64 0 (values_left c)) g 0 ≡ (get_or (padded 64 0 (values_left (with_change i g c))) g 0 + rank n (new_zero n)) % factorial n
   old_differs old =
-      let new : get_or (padded 64 0 (values_left (with_change i g c))) g 0 ≡ value_of on_new L =
-      value_at (with_change i g c) w g inside ∙ rw (zeros_are, levels_are, get_or-set_same (zeros_left c) g on_new on_old zero_there) in
+      let new : get_or (padded 64 0 (values_left (with_change i g c))) g 0 ≡ value_of New L =
+      value_at (with_change i g c) w g inside ∙ rw (zeros_are, levels_are, get_or-set_same (zeros_left c) g New Old zero_there) in
       let there : g < length (groups_left c) = omega (arith, inside, groups_after_all_length c.groups es) in
       rw (value_at c v g inside, old, new, groups_at (groups_left c) g there no_group) (zero_changed (length L) (permutation_of L))
 
@@ -192,7 +187,7 @@ module _ (c : Contents) (v : Valid c) (i : ℕ) (le : i ≤ length c.entries) (g
       none (values_left (with_change i g c)) (omega arith) ∙ sym (none (values_left c) (omega (arith, values_length c v))))
       (λ there.
       value_at (with_change i g c) w k there
-      ∙ rw (zeros_are, levels_are, get_or-set_other (zeros_left c) g k on_new on_old ne) (sym (value_at c v k there)))
+      ∙ rw (zeros_are, levels_are, get_or-set_other (zeros_left c) g k New Old ne) (sym (value_at c v k there)))
 
   change_over : ChangeOver i g (outcome_of (with_change i g c)) (outcome_of c)
   unfolding outcome_of
@@ -203,12 +198,12 @@ module _ (c : Contents) (v : Valid c) (i : ℕ) (le : i ≤ length c.entries) (g
         (padded_behind 1000 i no_answer (done_pushes 0 0) (answers_of c) (omega (arith, le, answers_length c.groups es))
         (omega (arith, w.short, behind_length i (change g) es, answers_length c.groups es)));
     groups = rw levels_are;
-    zeros = rw (zeros_are, length-set) (sym (set-append_left (zeros_left c) _ g on_new zero_there));
-    value_old = λ old. old_differs (sym (padded_at 64 on_old (zeros_left c) g zero_there) ∙ old);
+    zeros = rw (zeros_are, length-set) (sym (set-append_left (zeros_left c) _ g New zero_there));
+    value_old = λ old. old_differs (sym (padded_at 64 Old (zeros_left c) g zero_there) ∙ old);
     values_others = others_same;
     values_new = λ new.
-        let is : get_or (zeros_left c) g on_old ≡ on_new = sym (padded_at 64 on_old (zeros_left c) g zero_there) ∙ new in
-        let none : zeros_left (with_change i g c) ≡ zeros_left c = zeros_are ∙ ap (set (zeros_left c) g) (sym is) ∙ set-get_or (zeros_left c) g on_old in
+        let is : get_or (zeros_left c) g Old ≡ New = sym (padded_at 64 Old (zeros_left c) g zero_there) ∙ new in
+        let none : zeros_left (with_change i g c) ≡ zeros_left c = zeros_are ∙ ap (set (zeros_left c) g) (sym is) ∙ set-get_or (zeros_left c) g Old in
         rw (none, levels_are);
   }
 

@@ -12,14 +12,27 @@ use Rattle.ranking.proofs.Values.{valued_record}
 use Rattle.charge.specs.Answers.{read_answer}
 use Rattle.theory.proofs.Refusal.{readable}
 use Rattle.charge.proofs.ReadLevels.{number_is, standing}
-use Rattle.sheet.specs.declared.held.GroupZero.{GroupZero}
+use Rattle.ranking.specs.declared.zero.Zero.{Zero}
 use Rattle.work.specs.Work.{value_of}
+use Rattle.std.specs.Prelude.{Result, Ok, Err}
+use Rattle.std.specs.Result.{IsOk}
+use borrow.Author.Rules.{rules}
+use Rattle.permutation.specs.Answers.{as_permuted}
+use Rattle.permutation.specs.Refusals.{number_in}
+use Rattle.permutation.proofs.Refusals.{given_ok}
+use Rattle.permutation.specs.declared.reasons.Refusal.{Refusal}
+use Rattle.permutation.specs.declared.answers.Permutation.{Permutation}
 
-pub read_value : (L : List ℕ) (z : GroupZero) {read : Permuted} {a : Valued} → read_number L ≡ 0 → read ≡ read_answer L
-    → a ≡ value_answer read.permutation z.zero → a.value ≡ value_of z L
-read_value L z h e is =
-    let r = readable h in
-    ap (λ (a : Valued). a.value)
-    (is
-    ∙ ap (λ p. value_answer p z.zero) (standing L e (number_is L e ∙ h)).is
-    ∙ valued_record (length L) (permutation_of L) r.few r.many (permutation_of_permutation L) z.zero)
+pub read_done : (L : List ℕ) (r : Result Permutation Refusal) → read_number L ≡ 0 → as_permuted r ≡ read_answer L → IsOk r
+read_done L r h e = given_ok r (number_is L e ∙ h)
+
+module _ (L : List ℕ) (z : Zero) {read : Permuted} {a : Valued} (h : read_number L ≡ 0) (e : read ≡ read_answer L) (is : a ≡ value_answer read.permutation z) where
+  pub read_valued : a ≡ record { number = 0; value = value_of z L }
+  read_valued =
+      let r = readable h in
+      is
+      ∙ ap (λ p. value_answer p z) (standing L e (number_is L e ∙ h)).is
+      ∙ valued_record (length L) (permutation_of L) r.few r.many (permutation_of_permutation L) z
+
+  pub read_value : a.value ≡ value_of z L
+  read_value = ap (λ (a : Valued). a.value) read_valued

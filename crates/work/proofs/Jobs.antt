@@ -21,10 +21,9 @@ use Rattle.symbols.specs.Answers.{prefix_on, lead_levels, store_number}
 use Rattle.rewriting.proofs.Rewriting.{rewrite_readable}
 use Rattle.symbols.proofs.Storing.{store_readable}
 use Rattle.ranking.specs.declared.zero.Zero.TheVariants.{New}
-use Rattle.sheet.specs.ZeroSection.{on_zero}
 use Rattle.sheet.specs.declared.held.Action.{Action}
 use Rattle.sheet.specs.declared.held.Action.TheVariants.{Count, Rewrite, Store, ChangeZero}
-use Rattle.sheet.specs.declared.held.GroupZero.{GroupZero}
+use Rattle.ranking.specs.declared.zero.Zero.{Zero}
 use Rattle.work.specs.Work.{room, job_levels, job_zero}
 
 pub job_length : (a : Action) (target : Permutation) (L : List ℕ) → length (job_levels a target L) ≡ length L
@@ -58,13 +57,13 @@ job_keeps r ChangeZero target = r
 pub job_readable : (a : Action) (target : Permutation) (L : List ℕ) → read_number L ≡ done → read_number (job_levels a target L) ≡ done
 job_readable a target L h = read_done (job_keeps (readable h) a target)
 
-pub job_new : (a : Action) → job_zero a (on_zero New) ≡ on_zero New
+pub job_new : (a : Action) → job_zero a New ≡ New
 job_new (Count k) = refl
 job_new Rewrite = refl
 job_new (Store m s) = refl
 job_new ChangeZero = refl
 
-pub job_same : (a : Action) (z : GroupZero) → (a ≡ ChangeZero → ⊥) → job_zero a z ≡ z
+pub job_same : (a : Action) (z : Zero) → (a ≡ ChangeZero → ⊥) → job_zero a z ≡ z
 job_same (Count k) z ne = refl
 job_same Rewrite z ne = refl
 job_same (Store m s) z ne = refl

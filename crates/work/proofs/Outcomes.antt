@@ -4,15 +4,13 @@ use mathlib.Core.List.{List}
 use Prim.Native.Nat.{ℕ}
 use Rattle.sheet.specs.Bytes.{got}
 use Rattle.sheet.specs.Sheet.{Contents, sheet}
-use Rattle.sheet.specs.Held.{no_contents, held_of, contents_of, sheet_answer}
+use Rattle.sheet.specs.Held.{SheetRead, no_contents, held_of, contents_of, sheet_answer}
 use Rattle.sheet.specs.declared.held.Sheet.{Sheet}
-use Rattle.sheet.specs.declared.held.SheetRead.{SheetRead}
 use Rattle.sheet.proofs.FaultNumbers.{TellsFault, sheet_tells_fault, answered_fault, answered_got}
 use Rattle.sheet.proofs.Claims.{sheets}
-use Rattle.work.specs.Answers.{outcome_of, work_answer}
+use Rattle.work.specs.Answers.{Worked, outcome_of, work_answer}
 use Rattle.sheet.specs.Standing.{SheetHeld}
 use Rattle.work.specs.declared.answers.Outcome.{Outcome}
-use Rattle.work.specs.declared.answers.Worked.{Worked}
 
 -- bytes that are a sheet without fault, held in memory
 pub record Accepted (s : List ℕ) (h : Sheet) : Type 0 where

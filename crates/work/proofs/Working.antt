@@ -1,4 +1,5 @@
 -- Working through a sheet in memory: groups and zeros in their rows, and what the commands so far answered and left. Assumes nothing.
+use Rattle.ranking.specs.declared.zero.Zero.TheVariants.{Old}
 use mathlib.Core.Path.{◌≡◌, refl, sym, ap, ◌∙◌}
 use mathlib.Core.List.{List, [], ◌++◌, map, zip_with}
 use Prim.Native.Nat.{ℕ, ◌+◌, ◌-◌, ◌≤◌, ◌<◌}
@@ -17,7 +18,6 @@ use Rattle.permutation.specs.declared.answers.Permutation.{Permutation}
 use Rattle.theory.specs.Levels.{read_number}
 use Rattle.charge.specs.declared.answers.Pushes.{Pushes}
 use Rattle.theory.proofs.Refusal.{readable}
-use Rattle.sheet.specs.ZeroSection.{on_old}
 use Rattle.sheet.specs.Sheet.{Contents}
 use Rattle.sheet.specs.Claims.{Each, Valid}
 use Rattle.sheet.specs.Held.{group_of, groups_of, no_entry, held_of, levels_of, groups_in, contents_of}
@@ -26,13 +26,11 @@ use Rattle.sheet.proofs.InMemory.{group_levels, groups_back, groups_at, groups_h
 use Rattle.sheet.specs.declared.held.Action.{Action}
 use Rattle.sheet.specs.declared.held.Group.{Group}
 use Rattle.sheet.specs.declared.held.Groups.{Groups}
-use Rattle.sheet.specs.declared.held.GroupZero.{GroupZero}
+use Rattle.ranking.specs.declared.zero.Zero.{Zero}
 use Rattle.sheet.specs.declared.held.Entry.{Entry}
 use Rattle.sheet.specs.declared.held.Sheet.{Sheet}
-use Rattle.work.specs.Work.{job_levels, job_zero, levels_for, answer_to, groups_after, answers, groups_after_all, zeros_after, zeros_after_all, value_of, groups_left, zeros_left, values_left}
+use Rattle.work.specs.Work.{job_answer, job_levels, job_zero, levels_for, answer_to, groups_after, answers, groups_after_all, zeros_after, zeros_after_all, value_of, groups_left, zeros_left, values_left}
 use Rattle.work.specs.Answers.{no_answer, outcome_of}
-use Rattle.work.specs.Acting.{acted}
-use Rattle.work.specs.declared.acting.Acted.{Acted}
 use Rattle.work.specs.declared.answers.Outcome.{Outcome}
 use Rattle.work.proofs.Jobs.{job_length, job_readable}
 use Rattle.work.proofs.Zipped.{zipped_length}
@@ -102,10 +100,10 @@ pub groups_after_all_held : (c : Contents) (es : List Entry) → Valid c → Gro
 groups_after_all_held c es v =
     groups_held (groups_after_all c.groups es) (omega (arith, v.few, groups_after_all_length c.groups es)) (groups_after_all_each c.groups es v.readable)
 
-pub zeros_after_all_length : (zs : List GroupZero) (es : List Entry) → length (zeros_after_all zs es) ≡ length zs
+pub zeros_after_all_length : (zs : List Zero) (es : List Entry) → length (zeros_after_all zs es) ≡ length zs
 unfolding zeros_after_all
 zeros_after_all_length zs es =
-    left_keeps zeros_after (λ (ys : List GroupZero). length ys ≡ length zs) (λ e ys same. length-set ys e.command.group _ ∙ same) es zs refl
+    left_keeps zeros_after (λ (ys : List Zero). length ys ≡ length zs) (λ e ys same. length-set ys e.command.group _ ∙ same) es zs refl
 
 -- and each has a zero beside it, and so a value
 pub zeros_length : (c : Contents) → Valid c → length (zeros_left c) ≡ length (groups_left c)
@@ -122,11 +120,11 @@ Progress sheet said groups i =
     InTurn answer_to groups_after groups_of (contents_of sheet).entries (contents_of sheet).groups (replicate 1000 no_answer) groups said i
 
 -- the zeros go beside it
-abbrev pub ZerosSoFar : Sheet → List GroupZero → ℕ → Type 0
-ZerosSoFar sheet zeros i = zeros ≡ padded 64 on_old (zeros_after_all (contents_of sheet).zeros (take i (contents_of sheet).entries))
+abbrev pub ZerosSoFar : Sheet → List Zero → ℕ → Type 0
+ZerosSoFar sheet zeros i = zeros ≡ padded 64 Old (zeros_after_all (contents_of sheet).zeros (take i (contents_of sheet).entries))
 
 module _ {sheet : Sheet} (h : SheetHeld sheet) where
-  sheet_count : sheet.count ≡ length (contents_of sheet).entries
+  pub sheet_count : sheet.count ≡ length (contents_of sheet).entries
   unfolding held_of
   sheet_count = ap (λ (s : Sheet). s.count) h.held
 
@@ -159,7 +157,7 @@ module _ {sheet : Sheet} (h : SheetHeld sheet) where
       there : i < length (contents_of sheet).entries
       there = omega (arith, sheet_count)
 
-      next_is : get_or (contents_of sheet).entries i d ≡ next
+      pub next_is : get_or (contents_of sheet).entries i d ≡ next
       next_is = get_or-take sheet.count sheet.entries i d more
 
       -- its group is at an index of the row
@@ -170,9 +168,10 @@ module _ {sheet : Sheet} (h : SheetHeld sheet) where
             let same : get_or (contents_of sheet).entries i no_entry ≡ next = get_or_any (contents_of sheet).entries i no_entry d there ∙ next_is in
             rw (left_count, is) (rw same at named, h.valid.few)
 
-        pub step : (z : Group) {r : Acted} → r ≡ acted next.command.action next.target (levels_of (get_or groups.list g z))
-            → Progress sheet (set said i r.answer) (record { count = groups.count; list = set groups.list g r.group }) (i + 1)
-        step z {r} e =
+        pub step : (z : Group) {answer : Pushes} {left : Group} → answer ≡ job_answer next.command.action next.target (levels_of (get_or groups.list g z))
+            → left ≡ group_of (job_levels next.command.action next.target (levels_of (get_or groups.list g z)))
+            → Progress sheet (set said i answer) (record { count = groups.count; list = set groups.list g left }) (i + 1)
+        step z {answer} {left} said_so left_so =
             let Ls : List (List ℕ) = left_by groups_after (take i (contents_of sheet).entries) (contents_of sheet).groups in
             let inside : g < length Ls = omega (arith, index_below.0, ap (λ (x : Groups). x.count) v.left) in
             let levels : levels_of (get_or groups.list g z) ≡ levels_for Ls next =
@@ -180,28 +179,28 @@ module _ {sheet : Sheet} (h : SheetHeld sheet) where
             ∙ ap levels_of (groups_at Ls g inside z)
             ∙ group_levels (get_or Ls g [])
             ∙ ap (λ (k : ℕ). get_or Ls k []) is in
-            let did : r ≡ acted next.command.action next.target (levels_for Ls next) = e ∙ rw levels in
-            turn_more v d there (rw (next_is, did)) (rw (next_is, did, v.left, ← is) (groups_set Ls g inside _))
+            let did : left ≡ group_of (job_levels next.command.action next.target (levels_for Ls next)) = left_so ∙ rw levels in
+            turn_more v d there (said_so ∙ rw (next_is, levels)) (rw (next_is, did, v.left, ← is) (groups_set Ls g inside _))
 
-        pub zeros_step : {zeros : List GroupZero} → ZerosSoFar sheet zeros i → (z : GroupZero) {r : GroupZero} → r ≡ job_zero next.command.action (get_or zeros g z)
+        pub zeros_step : {zeros : List Zero} → ZerosSoFar sheet zeros i → (z : Zero) {r : Zero} → r ≡ job_zero next.command.action (get_or zeros g z)
             → ZerosSoFar sheet (set zeros g r) (i + 1)
         unfolding zeros_after_all
         zeros_step {zeros} so z {r} e =
-            let zs : List GroupZero = zeros_after_all (contents_of sheet).zeros (take i (contents_of sheet).entries) in
+            let zs : List Zero = zeros_after_all (contents_of sheet).zeros (take i (contents_of sheet).entries) in
             let inside : g < length zs =
             omega (arith, index_below.0, left_count, h.valid.zeros, zeros_after_all_length (contents_of sheet).zeros (take i (contents_of sheet).entries)) in
-            let at : get_or zeros g z ≡ get_or zs next.command.group on_old =
-            ap (λ (l : List GroupZero). get_or l g z) so
+            let at : get_or zeros g z ≡ get_or zs next.command.group Old =
+            ap (λ (l : List Zero). get_or l g z) so
             ∙ get_or-append zs _ z g inside
-            ∙ get_or_any zs g z on_old inside
-            ∙ ap (λ (k : ℕ). get_or zs k on_old) is in
+            ∙ get_or_any zs g z Old inside
+            ∙ ap (λ (k : ℕ). get_or zs k Old) is in
             let after : set zs g r ≡ zeros_after_all (contents_of sheet).zeros (take (i + 1) (contents_of sheet).entries) =
             rw (e, at, is) (sym (rw (add-one i, ← next_is) (left_next zeros_after (contents_of sheet).entries (contents_of sheet).zeros i d there))) in
-            ap (λ (l : List GroupZero). set l g r) so
+            ap (λ (l : List Zero). set l g r) so
             ∙ set-append_left zs _ g r inside
-            ∙ rw (← length-set zs g r) (ap (padded 64 on_old) after)
+            ∙ rw (← length-set zs g r) (ap (padded 64 Old) after)
 
-    pub end : {zeros : List GroupZero} {values : List ℕ} → sheet.count ≤ i → ZerosSoFar sheet zeros i
+    pub end : {zeros : List Zero} {values : List ℕ} → sheet.count ≤ i → ZerosSoFar sheet zeros i
         → values ≡ padded 64 0 (zip_with value_of (take groups.count zeros) (groups_in groups))
         → ◌≡◌ {A = Outcome} (record { count = sheet.count; answers = said; groups = groups; zeros = zeros; values = values }) (outcome_of (contents_of sheet))
     unfolding outcome_of answers groups_after_all
@@ -211,8 +210,8 @@ module _ {sheet : Sheet} (h : SheetHeld sheet) where
         let done : length es ≤ i = omega (arith, sheet_count) in
         let answers_are = row_all 1000 no_answer v.answered done in
         let groups_are : groups ≡ groups_of Ls = turn_left v done in
-        let zs : List GroupZero = zeros_left (contents_of sheet) in
-        let zeros_are : zeros ≡ padded 64 on_old zs = so ∙ rw (take_all i es done) in
+        let zs : List Zero = zeros_left (contents_of sheet) in
+        let zeros_are : zeros ≡ padded 64 Old zs = so ∙ rw (take_all i es done) in
         let long : length zs ≡ groups.count = zeros_after_all_length (contents_of sheet).zeros es ∙ h.valid.zeros ∙ sym left_count in
         let first : take groups.count zeros ≡ zs = ap (take groups.count) zeros_are ∙ take_at zs _ groups.count long in
         let values_are : values ≡ padded 64 0 (zip_with value_of zs Ls) = e ∙ rw (first, groups_are, groups_back Ls) in

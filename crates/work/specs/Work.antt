@@ -6,16 +6,15 @@ use Rattle.theory.specs.InTurn.{left_by, answers_to}
 use Rattle.theory.specs.CountUp.{call_levels}
 use Rattle.permutation.specs.declared.answers.Permutation.{Permutation}
 use Rattle.ranking.specs.Zeros.{value_on}
-use Rattle.ranking.specs.declared.zero.Zero.TheVariants.{New}
+use Rattle.ranking.specs.declared.zero.Zero.TheVariants.{Old, New}
 use Rattle.charge.specs.Answers.{done_pushes, call_answer}
 use Rattle.charge.specs.declared.answers.Pushes.{Pushes}
 use Rattle.rewriting.specs.Answers.{rewrite_answer, rewrite_levels}
 use Rattle.symbols.specs.Answers.{store_answer, store_levels}
-use Rattle.sheet.specs.ZeroSection.{on_zero, on_old}
 use Rattle.sheet.specs.Sheet.{Contents}
 use Rattle.sheet.specs.declared.held.Action.{Action}
 use Rattle.sheet.specs.declared.held.Action.TheVariants.{Count, Rewrite, Store, ChangeZero}
-use Rattle.sheet.specs.declared.held.GroupZero.{GroupZero}
+use Rattle.ranking.specs.declared.zero.Zero.{Zero}
 use Rattle.sheet.specs.declared.held.Entry.{Entry}
 
 -- the bytes of the push list that a rewrite is lent here; a list of twenty is never too short
@@ -38,11 +37,11 @@ job_levels (Store m symbol) target L = store_levels L m symbol
 job_levels ChangeZero target L = L
 
 -- the zero on which it leaves a group: kind 4 has it "move to the new zero", and "On a group already there it [..] alters nothing"; no other kind moves it
-abbrev pub job_zero : Action → GroupZero → GroupZero
+abbrev pub job_zero : Action → Zero → Zero
 job_zero (Count k) z = z
 job_zero Rewrite z = z
 job_zero (Store m symbol) z = z
-job_zero ChangeZero z = on_zero New
+job_zero ChangeZero z = New
 
 -- the levels of the group that a command names
 abbrev pub levels_for : List (List ℕ) → Entry → List ℕ
@@ -63,15 +62,15 @@ unfoldable pub groups_after_all : List (List ℕ) → List Entry → List (List 
 groups_after_all groups es = left_by groups_after es groups
 
 -- the zeros of the groups go along, and neither answers nor levels look at them
-abbrev pub zeros_after : Entry → List GroupZero → List GroupZero
-zeros_after e zeros = set zeros e.command.group (job_zero e.command.action (get_or zeros e.command.group on_old))
+abbrev pub zeros_after : Entry → List Zero → List Zero
+zeros_after e zeros = set zeros e.command.group (job_zero e.command.action (get_or zeros e.command.group Old))
 
-unfoldable pub zeros_after_all : List GroupZero → List Entry → List GroupZero
+unfoldable pub zeros_after_all : List Zero → List Entry → List Zero
 zeros_after_all zeros es = left_by zeros_after es zeros
 
 -- the value, on a group's zero, of the permutation of its levels
-abbrev pub value_of : GroupZero → List ℕ → ℕ
-value_of z L = value_on z.zero (length L) (permutation_of L)
+abbrev pub value_of : Zero → List ℕ → ℕ
+value_of z L = value_on z (length L) (permutation_of L)
 
 -- what working through a sheet gives: a number and pushes for each command, levels, zero and value for each group; each has a zero
 -- (`Valid.zeros`), so that none is without its value
@@ -81,7 +80,7 @@ answers_of c = answers c.groups c.entries
 abbrev pub groups_left : Contents → List (List ℕ)
 groups_left c = groups_after_all c.groups c.entries
 
-abbrev pub zeros_left : Contents → List GroupZero
+abbrev pub zeros_left : Contents → List Zero
 zeros_left c = zeros_after_all c.zeros c.entries
 
 abbrev pub values_left : Contents → List ℕ

@@ -1,102 +1,75 @@
 // Each command of a held sheet is done or refused by itself, by the jobs that stand alone, and the next follows.
-ghost use Rattle.std.specs.Prelude.{◌≡◌, take, replicate};
+ghost use Rattle.std.specs.Prelude.{◌≡◌, take};
 ghost use mathlib.Core.List.{zip_with};
 ghost use Rattle.theory.specs.Lists.{padded};
-ghost use Rattle.sheet.specs.Held.{no_contents, levels_of, groups_in, contents_of};
+ghost use Rattle.sheet.specs.Held.{group_of, levels_of, groups_in, contents_of};
 ghost use Rattle.sheet.specs.Standing.{GroupHeld, GroupsHeld, SheetHeld};
+ghost use Rattle.charge.specs.Answers.{as_pushes};
 ghost use Rattle.work.specs.Work as meaning;
-ghost use Rattle.work.specs.Answers.{no_answer, outcome_of};
-ghost use Rattle.work.specs.Acting.{acted};
+ghost use Rattle.work.specs.Answers.{outcome_of};
 
 use super::answers::Outcome;
-use charge::answers::{Pushes, done_pushes, no_pushes};
+use charge::answers::{Pushes, Spent};
 use charge::count_up::count_up;
 use charge::read::read;
 use permutation::answers::Permutation;
-use permutation::cell::wide;
+use permutation::reasons::Refusal;
 use ranking::value::value;
 use ranking::zero::Zero;
 use rewriting::rewrite::rewrite;
-use sheet::held::{Action, Group, GroupZero, Groups, Sheet, no_groups, old_zeros};
+use sheet::held::{Action, Group, Groups, Sheet};
 use symbols::store::store;
 
-// What a command did on its group.
-#[derive(Clone, Copy)]
-struct Acted {
-    answer: Pushes,
-    group: Group,
-}
-
 // The levels and the answer; of the zero tells `zero_left`.
-fn act(levels: &mut [u16], action: Action, target: Permutation) -> Pushes
-    ensures answer { result ≡ meaning.job_answer action target levels.old }
+fn act(levels: &mut [u16], action: Action, target: Permutation) -> Result<Spent, Refusal>
+    ensures answer { as_pushes result ≡ meaning.job_answer action target levels.old }
     ensures levels_left { levels.new ≡ meaning.job_levels action target levels.old }
 {
     match action {
         Action::Count(k) => count_up(levels, k),
-        Action::Rewrite => {
-            let mut list = [0u8; 20];
-            rewrite(levels, target, &mut list)
-        }
+        Action::Rewrite => rewrite(levels, target, &mut [0; 20]),
         Action::Store(m, symbol) => store(levels, m, symbol),
-        Action::ChangeZero => done_pushes(0, 0),
+        Action::ChangeZero => Ok(Spent {
+            pushes: 0,
+            charge: 0,
+        }),
     }
 }
 
-fn act_group(group: Group, action: Action, target: Permutation) -> Acted
-    requires { GroupHeld group }
-    ensures { result ≡ acted action target (levels_of group) }
+fn act_group(group: &mut Group, action: Action, target: Permutation) -> Result<Spent, Refusal>
+    requires { GroupHeld group.old }
+    ensures answer { as_pushes result ≡ meaning.job_answer action target (levels_of group.old) }
+    ensures group_left { group.new ≡ group_of (meaning.job_levels action target (levels_of group.old)) }
 {
-    let n = group.n;
-    let mut levels = group.levels;
-    let answer = act(&mut levels[..n], action, target);
-    Acted {
-        answer,
-        group: Group { n, levels },
-    }
+    act(&mut group.levels[..group.n], action, target)
 }
 
-fn zero_left(action: Action, on: GroupZero) -> GroupZero
+fn zero_left(action: Action, on: Zero) -> Zero
     ensures { result ≡ meaning.job_zero action on }
 {
     match action {
-        Action::ChangeZero => GroupZero { zero: Zero::New },
+        Action::ChangeZero => Zero::New,
         _ => on,
     }
 }
 
-fn value_of(group: Group, on: GroupZero) -> u64
-    requires { GroupHeld group }
-    ensures { result ≡ meaning.value_of on (levels_of group) }
+fn value_of(group: &Group, on: Zero) -> u64
+    requires { GroupHeld group.now }
+    ensures { result ≡ meaning.value_of on (levels_of group.now) }
 {
-    let n = group.n;
-    let levels = group.levels;
-    let permutation = read(&levels[..n]).permutation;
-    let zero = on.zero;
-    value(permutation, zero).value
+    let permutation = read(&group.levels[..group.n]).unwrap();
+    value(permutation, on).unwrap()
 }
 
-fn values_of(groups: Groups, zeros: [GroupZero; 64]) -> [u64; 64]
-    requires { GroupsHeld groups }
-    ensures { result ≡ padded 64 0 (zip_with meaning.value_of (take groups.count zeros) (groups_in groups)) }
+fn values_of(groups: &Groups, zeros: &[Zero; 64]) -> [u64; 64]
+    requires { GroupsHeld groups.now }
+    ensures { result ≡ padded 64 0 (zip_with meaning.value_of (take groups.now.count zeros.now) (groups_in groups.now)) }
 {
-    let count = groups.count;
-    let mut values = [0u64; 64];
-    let mut g: usize = 0;
-    while g < count {
-        let group = groups.list[g];
-        let on = zeros[g];
-        values[g] = value_of(group, on);
-        g += 1;
+    let mut values = [0; 64];
+    for g in 0..groups.count {
+        values[g] = value_of(&groups.list[g], zeros[g]);
     }
     values
-}
-
-fn no_answers() -> [Pushes; 1000]
-    ensures { result ≡ replicate 1000 no_answer }
-{
-    let none = no_pushes(0);
-    [none; 1000]
 }
 
 // The sheet is one that was read without fault.
@@ -104,49 +77,24 @@ pub fn work(sheet: Sheet) -> Outcome
     requires { SheetHeld sheet }
     ensures { result ≡ outcome_of (contents_of sheet) }
 {
-    let count = sheet.count;
-    let mut answers = no_answers();
+    let mut answers = [Pushes {
+        number: 0,
+        pushes: 0,
+        charge: 0,
+    }; 1000];
     let mut groups = sheet.groups;
     let mut zeros = sheet.zeros;
-    let mut i: usize = 0;
-    while i < count {
-        let entry = sheet.entries[i];
-        let command = entry.command;
-        let action = command.action;
-        let target = entry.target;
-        let g = wide(command.group);
-        let group = groups.list[g];
-        let acted = act_group(group, action, target);
-        let answer = acted.answer;
-        let left = acted.group;
-        answers[i] = answer;
-        groups.list[g] = left;
-        let on = zeros[g];
-        zeros[g] = zero_left(action, on);
-        i += 1;
+    for (i, entry) in sheet.entries[..sheet.count].iter().enumerate() {
+        let action = entry.command.action;
+        let g = usize::from(entry.command.group);
+        answers[i] = Pushes::from(act_group(&mut groups.list[g], action, entry.target));
+        zeros[g] = zero_left(action, zeros[g]);
     }
-    let values = values_of(groups, zeros);
+    let values = values_of(&groups, &zeros);
     Outcome {
-        count,
+        count: sheet.count,
         answers,
         groups,
-        zeros,
-        values,
-    }
-}
-
-// The outcome of a sheet that starts no work: nothing.
-pub fn no_outcome() -> Outcome
-    ensures { result ≡ outcome_of no_contents }
-{
-    let answers = no_answers();
-    let list = no_groups();
-    let zeros = old_zeros();
-    let values = [0u64; 64];
-    Outcome {
-        count: 0,
-        answers,
-        groups: Groups { count: 0, list },
         zeros,
         values,
     }

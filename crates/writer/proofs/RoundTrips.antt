@@ -15,7 +15,7 @@ use Rattle.sheet.specs.Held.{held_of, sheet_answer}
 use Rattle.sheet.specs.Claims.{longest_sheet}
 use Rattle.sheet.specs.Typed.{SheetTyped}
 use Rattle.sheet.specs.declared.held.Sheet.{Sheet}
-use Rattle.sheet.specs.declared.held.SheetRead.{SheetRead}
+use Rattle.sheet.specs.Held.{SheetRead}
 use Rattle.sheet.proofs.FaultNumbers.{sheet_tells_fault, answered_got}
 use Rattle.encoding.specs.SheetBytes.{sheet_bytes}
 use Rattle.encoding.specs.Said.{said}

@@ -1,7 +1,9 @@
 -- What `write_sheet` answers, and the list that it leaves, for all inputs. Assumes nothing.
-use Rattle.std.specs.Prelude.{cond, List, ℕ, leb, length}
+use Rattle.std.specs.Prelude.{cond, List, ℕ, leb, length, Result}
 use Rattle.theory.specs.Reasons.{done, paper}
 use Rattle.theory.specs.Refusal.{given, or_else}
+use Rattle.permutation.specs.Refusals.{number_in, given_in}
+use Rattle.permutation.specs.declared.reasons.Refusal.{Refusal}
 use Rattle.sheet.specs.Putting.{onto}
 use Rattle.sheet.specs.declared.held.Sheet.{Sheet}
 use Rattle.encoding.specs.SheetBytes.{sheet_bytes}
@@ -19,3 +21,7 @@ write_answer sheet room = record { number = write_number sheet room; length = gi
 -- "bytes past it keep their values"; refused, "no change in any lent list"
 unfoldable pub written_on : Sheet → List ℕ → List ℕ
 written_on sheet out = given (write_number sheet (length out)) (onto (sheet_bytes sheet) out) out
+
+-- what writing gives, as C gets it: a number, and the sheet's length, or 0 where it is refused
+abbrev pub as_written : Result ℕ Refusal → Written
+as_written r = record { number = number_in r; length = given_in 0 r }

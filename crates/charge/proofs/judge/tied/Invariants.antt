@@ -1,12 +1,8 @@
 -- `charge::judge::tied` meets its contract: the levels have a tie where those ahead have one. Assumes nothing.
 use mathlib.Core.Path.{◌≡◌}
-use Prim.Native.Nat.{◌≤◌, ◌-◌}
-use lib.ListN.{length, drop}
+use lib.ListN.{drop}
 use Rattle.theory.specs.Levels.{tied}
 use Rattle.charge.proofs.judge.tied.Given as goal
 
 abbrev pub invariant-loop-i : goal.invariant-loop-i
-invariant-loop-i l = (tied l.levels ≡ tied (drop l.i l.levels)) × (l.i ≤ length l.levels)
-
-abbrev pub decreases-loop-i : goal.decreases-loop-i
-decreases-loop-i l = length l.levels - l.i
+invariant-loop-i l = tied l.levels ≡ tied (drop l.i l.levels)

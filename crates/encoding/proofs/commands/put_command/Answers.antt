@@ -11,7 +11,7 @@ pub returns-in-Count : goal.returns-in-Count
 unfolding kind_of targeted body_bytes
 returns-in-Count c =
     let put = c.put_count.ensures in
-    rw c.in-Count.is (lays_put c.done.ensures refl put (count_end _ _ put))
+    rw c.in-Count.is (lays_put refl refl put (count_end _ _ put))
 
 pub returns-in-Rewrite : goal.returns-in-Rewrite
 unfolding kind_of targeted body_bytes
@@ -21,10 +21,10 @@ pub returns-in-Store : goal.returns-in-Store
 unfolding kind_of targeted body_bytes
 returns-in-Store c =
     let put = c.put_store.ensures in
-    rw c.in-Store.is (lays_put c.done-in-Store.ensures refl put (store_end _ _ _ put))
+    rw c.in-Store.is (lays_put refl refl put (store_end _ _ _ put))
 
 pub returns-in-ChangeZero : goal.returns-in-ChangeZero
 unfolding kind_of targeted body_bytes
 returns-in-ChangeZero c =
     let put = c.put_head.ensures in
-    rw (c.in-ChangeZero.is, append-nil) (lays_put c.done-in-ChangeZero.ensures refl put (omega (arith, head_end _ _ put)))
+    rw (c.in-ChangeZero.is, append-nil) (lays_put refl refl put (omega (arith, head_end _ _ put)))

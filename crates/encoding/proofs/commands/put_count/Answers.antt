@@ -10,4 +10,4 @@ put_little-requires c = let head = c.put_head-body.ensures in omega (arith, head
 
 pub returns : goal.returns
 unfolding kind_of body_bytes
-returns c = puts_then c.put_head-body.ensures c.put_little.ensures
+returns c = puts_then c.put_head-body.ensures (rw c.from.ensures at c.put_little.ensures)

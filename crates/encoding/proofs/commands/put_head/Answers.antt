@@ -10,4 +10,4 @@ put_little-requires c = let one = c.put_little-next.ensures in omega (arith, one
 
 pub returns : goal.returns
 unfolding head_bytes
-returns c = puts_then c.put_little-next.ensures c.put_little.ensures
+returns c = puts_then (rw c.from.ensures at c.put_little-next.ensures) (rw c.from-2.ensures at c.put_little.ensures)

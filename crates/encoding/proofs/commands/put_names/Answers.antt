@@ -1,38 +1,26 @@
--- `encoding::commands::put_names` meets its contract: the names up to i were put, at the end all twenty, and so the first n. Assumes nothing.
+-- `encoding::commands::put_names` meets its contract: all twenty names were copied, and so the first n. Assumes nothing.
 use mathlib.Core.Path.{◌≡◌, sym, ap, ◌∙◌}
-use mathlib.Core.List.{◌++◌, flat_map}
-use native.Mathlib.Nat.{one-mul}
+use mathlib.Core.List.{◌++◌}
+use Prim.Native.Nat.{◌+◌, ◌-◌, ◌<◌}
 use native.Mathlib.Omega.{arith}
+use borrow.Rule.Slice.PartMut.{same_len_mid}
 use lib.ListN.{length, take, drop, take-append-drop}
-use lib.Seq.{length-take-le}
-use Rattle.sheet.specs.Bytes.{bytes_of}
-use Rattle.sheet.proofs.Putting.{row_start, row_next, row_end, puts_first}
-use Rattle.encoding.proofs.Numbers.{flat_map_length, flat_map_append}
-use Rattle.encoding.proofs.Pieces.{flat_map_grows, number_end}
+use lib.Seq.{length-take-le, get_or-take}
+use Rattle.sheet.proofs.Putting.{puts_copied, puts_first}
+use Rattle.encoding.proofs.Numbers.{bytes_names}
 use Rattle.encoding.proofs.commands.put_names.Goals as goal
-
-pub loop-i-init : goal.loop-i-init
-loop-i-init c = row_start (flat_map_grows (bytes_of 1)) _ _ _ _
-
-pub put_little-end-requires : goal.put_little-end-requires
-put_little-end-requires c = let l = c.loop-i.invariant in omega (arith, l.put.long, l.short)
-
-pub loop-i-preserved : goal.loop-i-preserved
-loop-i-preserved c =
-    let one = rw c.wide_digit.ensures at c.put_little-end.ensures in
-    row_next (flat_map_grows (bytes_of 1)) _ _ _ _ c.loop-i.invariant (omega (arith, c.requires.2, c.loop-i-test.true)) 0 one
-    (omega (arith, number_end 1 _ one))
-
-pub shape_of-out : goal.shape_of-out
-shape_of-out c = c.loop-i.invariant.put.long
 
 pub returns : goal.returns
 returns c =
-    let n = c.args.n in
-    let cells = c.args.cells.now in
-    let all = row_end (flat_map_grows (bytes_of 1)) _ _ _ _ c.loop-i.invariant (omega (arith, c.requires.2, c.loop-i-test.false)) in
-    let split : flat_map (bytes_of 1) cells ≡ flat_map (bytes_of 1) (take n cells) ++ flat_map (bytes_of 1) (drop n cells) =
-    sym (ap (flat_map (bytes_of 1)) (take-append-drop n cells)) ∙ flat_map_append (bytes_of 1) (take n cells) (drop n cells) in
-    let long : length (flat_map (bytes_of 1) (take n cells)) ≡ n =
-    flat_map_length 1 (take n cells) ∙ rw one-mul (length-take-le n cells (omega (arith, c.requires.1, c.requires.2))) in
-    rw long at (puts_first (flat_map (bytes_of 1) (take n cells)) _ (rw split at all) (omega (arith, c.requires.0)))
+    let a = c.args in
+    let n = a.n in
+    let cells = a.cells.now in
+    let copy = c.copy_from_slice.ensures in
+    let long : length (take n cells) ≡ n = length-take-le n cells (omega (arith, c.requires.1, c.told-cells)) in
+    let names = bytes_names (take n cells) (λ i h. let below : i < n = omega (arith, long) in rw get_or-take (c.fits-cells i)) in
+    let split = take-append-drop n cells in
+    let all =
+    puts_copied a.out.now a.at (a.at + 20 - a.at) (take n cells ++ drop n cells) _ {r = a.at + 20} (copy.after ∙ sym split) (omega (arith, c.requires.0))
+    (same_len_mid _ _ _ _ copy.len)
+    (omega (arith, ap length split, c.told-cells)) in
+    rw names (rw long at (puts_first (take n cells) (drop n cells) all (omega (arith, c.requires.0))))

@@ -1,9 +1,13 @@
 -- `encoding::commands::put_rewrite` meets its contract: fit, muddle, and then the names. Assumes nothing.
-use mathlib.Core.Path.{◌≡◌, sym, ◌∙◌}
+use mathlib.Core.Path.{◌≡◌, refl, sym, ap, ◌∙◌}
+use mathlib.Core.List.{List}
+use Prim.Native.Nat.{ℕ, ◌-◌}
 use native.Mathlib.Omega.{arith}
 use borrow.Author.Rules.{rules}
-use lib.ListN.{length, take}
+use lib.ListN.{length, take, drop}
 use lib.Seq.{length-take-le}
+use Rattle.std.proofs.lemmas.List.{take_rest}
+use Rattle.permutation.specs.Records.{all_zero}
 use Rattle.sheet.proofs.Putting.{puts_then}
 use Rattle.encoding.specs.CommandKinds.{kind_of, body_bytes}
 use Rattle.encoding.proofs.ByTests.{target_other, target_muddled, target_clear}
@@ -17,25 +21,26 @@ names_there : (c : Else-target-n) → length (take c.args.n c.args.target.cells)
 names_there c = let long : length c.args.target.cells ≡ 20 = search rules in length-take-le _ _ (omega arith)
 
 pub returns-then-target-n : goal.returns-then-target-n
-returns-then-target-n c = lays_refused c.refuse.ensures (target_other _ _ c.if-target-n.true) (λ z. omega arith)
+returns-then-target-n c = lays_refused refl (target_other _ _ c.if-target-n.true) (λ z. omega arith)
 
-pub all_zero-requires : goal.all_zero-requires
-all_zero-requires c = (search rules, search rules)
+-- what is judged past the names, of the whole row
+rest_is : (cells : List ℕ) (n : ℕ) → all_zero (drop n cells) ≡ all_zero (take (length cells - n) (drop n cells))
+rest_is cells n = ap all_zero (sym (take_rest cells n))
 
 pub put_names-requires : goal.put_names-requires
 put_names-requires c =
     let head = c.put_head-body.ensures in
-    (omega (arith, head.long, head_end _ _ head), search rules, search rules)
+    (omega (arith, head.long, head_end _ _ head), search rules)
 
-pub returns-then-all_zero : goal.returns-then-all_zero
-unfolding kind_of body_bytes
-returns-then-all_zero c =
-    lays_put c.done.ensures
-    (target_clear _ _ c.if-target-n.false (sym c.all_zero.ensures ∙ c.if-all_zero.true))
-    (rw (← c.if-target-n.false) at (puts_then c.put_head-body.ensures c.put_names.ensures))
-    (omega (arith, c.requires.1, head_end _ _ c.put_head-body.ensures, numbers_end 1 _ c.put_names.ensures, names_there (goal.at.returns-then-all_zero c).Else-target-n))
+pub returns-then-not-all_zero : goal.returns-then-not-all_zero
+returns-then-not-all_zero c =
+    let clear = rest_is c.args.target.cells c.args.n ∙ sym c.all_zero.ensures ∙ c.if-not-all_zero.true in
+    lays_refused refl (target_muddled _ _ c.if-target-n.false clear) (λ z. omega arith)
 
 pub returns : goal.returns
+unfolding kind_of body_bytes
 returns c =
-    let clear = sym c.all_zero.ensures ∙ c.if-all_zero.false in
-    lays_refused c.refuse-2.ensures (target_muddled _ _ c.if-target-n.false clear) (λ z. omega arith)
+    lays_put refl
+    (target_clear _ _ c.if-target-n.false (rest_is c.args.target.cells c.args.n ∙ sym c.all_zero.ensures ∙ c.if-not-all_zero.false))
+    (rw (← c.if-target-n.false) at (puts_then c.put_head-body.ensures c.put_names.ensures))
+    (omega (arith, c.requires.1, head_end _ _ c.put_head-body.ensures, numbers_end 1 _ c.put_names.ensures, names_there (goal.at.returns c).Else-target-n))

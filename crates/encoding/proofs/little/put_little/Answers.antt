@@ -1,16 +1,29 @@
 -- `encoding::little::put_little` meets its contract: the low i bytes were put, and `left` is spelled by the others. Assumes nothing.
-use borrow.Author.Rules.{rules}
-use Rattle.encoding.proofs.Spelling.{spelling_none, spelling_more, spelling_all}
+use mathlib.Core.Path.{◌≡◌, ◌∙◌}
+use Prim.Native.Nat.{◌+◌, ◌-◌}
+use native.Mathlib.Omega.{arith}
+use borrow.Rule.Slice.PartMut.{same_len_mid}
+use lib.ListN.{length, take, drop, length-take, length-drop}
+use Rattle.sheet.proofs.Putting.{puts_copied}
+use Rattle.sheet.specs.Bytes.{bytes_of}
+use Rattle.encoding.proofs.Numbers.{bytes_length}
+use Rattle.encoding.proofs.Spelling.{spelling_more, spelling_all}
 use Rattle.encoding.proofs.little.put_little.Goals as goal
+use Rattle.encoding.proofs.little.put_little.Goals.{At-loop-byte}
 
-pub loop-i-init : goal.loop-i-init
-loop-i-init c = spelling_none _ _ _ _
+-- the part has k bytes
+part_long : (c : At-loop-byte) → let a = c.args in length (take (a.at + a.k - a.at) (drop a.at a.out.now)) ≡ a.k
+part_long c = simp (length-take, length-drop) (omega arith)
 
-pub loop-i-preserved : goal.loop-i-preserved
-loop-i-preserved c = spelling_more c.loop-i.invariant c.loop-i-test.true (search rules)
-
-pub shape_of-out : goal.shape_of-out
-shape_of-out c = c.loop-i.invariant.put.long
+pub loop-byte-preserved : goal.loop-byte-preserved
+loop-byte-preserved c =
+    let long = part_long (goal.at.loop-byte-preserved c).At-loop-byte in
+    spelling_more c.loop-byte.invariant (omega (arith, long)) (omega arith)
 
 pub returns : goal.returns
-returns c = spelling_all c.loop-i.invariant c.loop-i-test.false
+returns c =
+    let a = c.args in
+    let long = part_long (goal.at.returns c).At-loop-byte in
+    let items = c.loop-byte.auto.byte-items in
+    let whole = spelling_all c.loop-byte.invariant (omega (arith, long)) (items ∙ long) in
+    puts_copied a.out.now a.at _ (bytes_of a.k a.x) _ whole (omega arith) (same_len_mid _ _ _ _ items) (omega (arith, bytes_length a.k a.x))

@@ -25,9 +25,6 @@ slice_bounds-copy_from_slice-end c =
     let fits : c.put_byte-from.result + c.decimal-count.result ≤ length c.put_byte-from.new.text = omega arith in
     search rules
 
-pub overflow_add-result : goal.overflow_add-result
-overflow_add-result c = let n = ap length (made (goal.at.overflow_add-result c).After-decimal-count) in search rules
-
 pub returns : goal.returns
 returns c =
     let p = c.put_byte-from in

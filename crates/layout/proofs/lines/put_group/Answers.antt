@@ -17,7 +17,7 @@ use Rattle.layout.proofs.lines.put_group.Goals.{After-put_byte-a}
 -- the first two fields have 3 and 21 bytes at most, and there are as many levels as the group says, twenty at most
 sizes : (c : After-put_byte-a)
     → let a = c.args in (length (field a.g) ≤ 3) × (length (field a.value) ≤ 21)
-    × (a.group.n ≡ length (levels_of a.group)) × (a.group.n ≤ 20) × (length a.group.levels ≡ 20)
+    × (a.group.now.n ≡ length (levels_of a.group.now)) × (a.group.now.n ≤ 20) × (length a.group.now.levels ≡ 20)
 sizes c =
     let held = c.requires.2 in
     (field_short _ 1 (omega arith), field_short _ 19 (omega arith), group_size held, group_few held, search rules)
@@ -27,12 +27,6 @@ put_field-b-requires c = let w = sizes (goal.at.put_field-b-requires c).After-pu
 
 pub put_field-c-requires : goal.put_field-c-requires
 put_field-c-requires c = let w = sizes (goal.at.put_field-c-requires c).After-put_byte-a in omega arith
-
-pub slice_bounds-levels-end : goal.slice_bounds-levels-end
-slice_bounds-levels-end c = let w = sizes (goal.at.slice_bounds-levels-end c).After-put_byte-a in search rules
-
-pub slice_bounds-put_levels-end : goal.slice_bounds-put_levels-end
-slice_bounds-put_levels-end c = let w = sizes (goal.at.slice_bounds-put_levels-end c).After-put_byte-a in search rules
 
 pub put_levels-d-requires : goal.put_levels-d-requires
 put_levels-d-requires c = let w = sizes (goal.at.put_levels-d-requires c).After-put_byte-a in omega arith
@@ -44,4 +38,4 @@ pub returns : goal.returns
 unfolding group_line
 returns c =
     let put = puts_then c.put_field-b.ensures (puts_then c.put_field-c.ensures c.put_levels-d.ensures.puts) in
-    record { puts = puts_line (_ ∷ _ ∷ levels_of c.args.group) c.put_byte-a.ensures put c.put_byte.ensures; short = omega (arith, sizes (goal.at.returns c).After-put_byte-a) }
+    record { puts = puts_line (_ ∷ _ ∷ levels_of c.args.group.now) c.put_byte-a.ensures put c.put_byte.ensures; short = omega (arith, sizes (goal.at.returns c).After-put_byte-a) }

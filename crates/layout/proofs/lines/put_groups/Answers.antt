@@ -33,9 +33,6 @@ loop-g-preserved c =
     let line = rw is at c.put_group-at.ensures.puts in
     row_next groups_grow _ _ _ _ c.loop-g.invariant (omega (arith, count_is (goal.at.loop-g-preserved c).Start)) (0, []) line c.put_group-at.ensures.short
 
-pub shape_of-text : goal.shape_of-text
-shape_of-text c = c.loop-g.invariant.put.long
-
 pub returns : goal.returns
 returns c =
     let few = count_is (goal.at.returns c).Start in

@@ -1,5 +1,4 @@
 -- `listing::lists::entries_in` meets its contract: the first i commands are in their row. Assumes nothing.
-use Prim.Native.Nat.{◌-◌}
 use lib.ListN.{length}
 use Rattle.sheet.specs.Held.{no_entry}
 use Rattle.listing.specs.LentLists.{entry_at}
@@ -8,6 +7,3 @@ use Rattle.listing.proofs.lists.entries_in.Given as goal
 
 abbrev pub invariant-loop-i : goal.invariant-loop-i
 invariant-loop-i l = RowsFilled 1000 no_entry (entry_at l.kinds l.groups l.numbers l.names) (length l.kinds) l.entries l.i
-
-abbrev pub decreases-loop-i : goal.decreases-loop-i
-decreases-loop-i l = l.count - l.i

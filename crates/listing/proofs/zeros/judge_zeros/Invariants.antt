@@ -1,11 +1,6 @@
--- `listing::zeros::judge_zeros` meets its contract: none of the first i zeros is refused. Assumes nothing.
-use Prim.Native.Nat.{◌-◌}
-use lib.ListN.{take}
+-- `listing::zeros::judge_zeros` meets its contract: none of the zeros up to here is refused. Assumes nothing.
 use Rattle.listing.proofs.Listing.{ZerosJudged}
 use Rattle.listing.proofs.zeros.judge_zeros.Given as goal
 
-abbrev pub invariant-loop-i : goal.invariant-loop-i
-invariant-loop-i l = ZerosJudged (take l.total l.zeros) l.i
-
-abbrev pub decreases-loop-i : goal.decreases-loop-i
-decreases-loop-i l = l.total - l.i
+abbrev pub invariant-loop-number : goal.invariant-loop-number
+invariant-loop-number l = ZerosJudged l.zeros l.number-index

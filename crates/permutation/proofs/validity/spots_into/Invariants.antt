@@ -1,11 +1,7 @@
--- `permutation::validity::spots_into` meets its contract. The loop's invariant: the names of the first i places were met. Assumes nothing.
-use Prim.Native.Nat.{◌-◌, ◌≤◌}
-use lib.ListN.{take}
+-- `permutation::validity::spots_into` meets its contract. The loop's invariant: the names of the first places were met. Assumes nothing.
+use lib.ListN.{length, take}
 use Rattle.permutation.proofs.Meeting.{Met}
 use Rattle.permutation.proofs.validity.spots_into.Given as goal
 
-abbrev pub invariant-loop-i : goal.invariant-loop-i
-invariant-loop-i l = (l.i ≤ l.n) × Met l.n (take l.i l.cells) l.spots l.seen
-
-abbrev pub decreases-loop-i : goal.decreases-loop-i
-decreases-loop-i l = l.n - l.i
+abbrev pub invariant-loop-name : goal.invariant-loop-name
+invariant-loop-name l = Met (length l.names) (take l.name-index l.names) l.spots l.seen

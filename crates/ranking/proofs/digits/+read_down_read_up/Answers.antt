@@ -2,58 +2,57 @@
 -- cell m and leaves the others to the other reader, from the spot of m on. Assumes nothing.
 use mathlib.Core.Bool.{true, false}
 use native.Mathlib.Omega.{arith}
-use borrow.Author.Rules.{rules}
 use Rattle.ranking.proofs.BySpots.{spot_below, passed_below, low_less, read_turn, read_none}
 use Rattle.ranking.proofs.digits.+read_down_read_up.Goals as goal
 
-pub read_down-passed_down-requires : goal.read_down-passed_down-requires
-read_down-passed_down-requires t c =
-    (omega arith, spot_below c.requires.4 c.if-m-gt0.true c.wide-j.ensures, omega arith)
+pub read_down-passed-requires : goal.read_down-passed-requires
+read_down-passed-requires t c =
+    (omega arith, spot_below c.requires.3 c.if-m-gt0.true c.from-j.ensures, omega arith)
 
 pub read_down-digit_of-requires : goal.read_down-digit_of-requires
 read_down-digit_of-requires t c =
     let known = c.requires in
-    let j = spot_below known.4 c.if-m-gt0.true c.wide-j.ensures in
-    (omega (arith, passed_below true _ _ _ known.2 j, c.passed_down.ensures), omega arith)
+    let j = spot_below known.3 c.if-m-gt0.true c.from-j.ensures in
+    (omega (arith, passed_below true _ _ _ known.2 j, c.passed.ensures), omega arith)
 
 pub read_down-read_up-requires : goal.read_down-read_up-requires
 read_down-read_up-requires t c =
     let known = c.requires in
-    let j = spot_below known.4 c.if-m-gt0.true c.wide-j.ensures in
-    (omega arith, (omega arith, omega arith, omega (arith, j), search rules, low_less known.4))
+    let j = spot_below known.3 c.if-m-gt0.true c.from-j.ensures in
+    (omega arith, (omega arith, omega arith, omega (arith, j), low_less known.3))
 
 pub read_down-returns-then-m-gt0 : goal.read_down-returns-then-m-gt0
 read_down-returns-then-m-gt0 t c =
     let a = c.args in
     read_turn true a.n a.m a.s _ _ _ a.spots.now a.row.now _ c.if-m-gt0.true c.requires.1 (omega arith)
-    c.wide-j.ensures c.passed_down.ensures c.digit_of.ensures c.read_up.ensures
+    c.from-j.ensures c.passed.ensures c.digit_of.ensures c.read_up.ensures
 
 pub read_down-returns-else-m-gt0 : goal.read_down-returns-else-m-gt0
 read_down-returns-else-m-gt0 t c =
     let a = c.args in
     read_none true a.n a.m a.s a.spots.now a.row.now c.if-m-gt0.false
 
-pub read_up-passed_up-requires : goal.read_up-passed_up-requires
-read_up-passed_up-requires t c =
-    (omega arith, spot_below c.requires.4 c.if-m-gt0.true c.wide-j.ensures, omega arith)
+pub read_up-passed-requires : goal.read_up-passed-requires
+read_up-passed-requires t c =
+    (omega arith, spot_below c.requires.3 c.if-m-gt0.true c.from-j.ensures, omega arith)
 
 pub read_up-digit_of-requires : goal.read_up-digit_of-requires
 read_up-digit_of-requires t c =
     let known = c.requires in
-    let j = spot_below known.4 c.if-m-gt0.true c.wide-j.ensures in
-    (omega (arith, passed_below false _ _ _ known.2 j, c.passed_up.ensures), omega arith)
+    let j = spot_below known.3 c.if-m-gt0.true c.from-j.ensures in
+    (omega (arith, passed_below false _ _ _ known.2 j, c.passed.ensures), omega arith)
 
 pub read_up-read_down-requires : goal.read_up-read_down-requires
 read_up-read_down-requires t c =
     let known = c.requires in
-    let j = spot_below known.4 c.if-m-gt0.true c.wide-j.ensures in
-    (omega arith, (omega arith, omega arith, omega (arith, j), search rules, low_less known.4))
+    let j = spot_below known.3 c.if-m-gt0.true c.from-j.ensures in
+    (omega arith, (omega arith, omega arith, omega (arith, j), low_less known.3))
 
 pub read_up-returns-then-m-gt0 : goal.read_up-returns-then-m-gt0
 read_up-returns-then-m-gt0 t c =
     let a = c.args in
     read_turn false a.n a.m a.s _ _ _ a.spots.now a.row.now _ c.if-m-gt0.true c.requires.1 (omega arith)
-    c.wide-j.ensures c.passed_up.ensures c.digit_of.ensures c.read_down.ensures
+    c.from-j.ensures c.passed.ensures c.digit_of.ensures c.read_down.ensures
 
 pub read_up-returns-else-m-gt0 : goal.read_up-returns-else-m-gt0
 read_up-returns-else-m-gt0 t c =

@@ -2,41 +2,43 @@
 use mathlib.Core.Path.{◌≡◌, sym, ap, ◌∙◌}
 use native.Mathlib.Omega.{arith}
 use borrow.Author.Tests.{ne_eqb}
+use Rattle.std.proofs.lemmas.Result.{err_from_is_err_and}
 use Rattle.theory.specs.Permutation.{row}
 use Rattle.theory.specs.Rank.{digits}
-use Rattle.permutation.specs.Records.{list_of, record_number}
+use Rattle.permutation.specs.Records.{list_of}
 use Rattle.ranking.specs.Answers.{digits_answer, rank_answer}
 use Rattle.ranking.specs.declared.answers.Digits.{Digits}
+use Rattle.permutation.proofs.Refusals.{not_done}
 use Rattle.permutation.proofs.Records.{Sound, sound}
 use Rattle.ranking.proofs.Values.{digits_bounded, row_rank}
 use borrow.Author.Rules.{rules}
 use Rattle.ranking.proofs.rank.rank.Goals as goal
-use Rattle.ranking.proofs.rank.rank.Goals.{After-digits-found, Else-number-ne0}
+use Rattle.ranking.proofs.rank.rank.Goals.{In_ok-row}
 
--- the number of the digits is the record's
-number_is : (c : After-digits-found) → c.digits-found.result.number ≡ record_number c.args.permutation
+pub returns-in_err-row : goal.returns-in_err-row
+unfolding digits_answer rank_answer
+returns-in_err-row c =
+    let p = err_from_is_err_and c.from_residual.result c.from_residual.ensures.1 in
+    rw (p.1, p.2, ← ap (λ (d : Digits). d.number) c.in_err-row.ensures, ne_eqb _ _ (not_done c.in_err-row.field-0.0))
+
+-- where there are digits the record is a permutation's, and the row is that of its digits
+sound-now : (c : In_ok-row) → Sound c.args.permutation
 unfolding digits_answer
-number_is c = ap (λ (d : Digits). d.number) c.digits-found.ensures
+sound-now c = sound c.args.permutation (search rules) (sym (ap (λ (d : Digits). d.number) c.in_ok-row.ensures))
 
-pub returns-then-number-ne0 : goal.returns-then-number-ne0
-unfolding rank_answer
-returns-then-number-ne0 c = rw (← number_is (goal.at.returns-then-number-ne0 c).After-digits-found, ne_eqb _ _ c.if-number-ne0.true)
-
--- past the test the record is a permutation's, and the row is that of its digits
-sound-now : (c : Else-number-ne0) → Sound c.args.permutation
-sound-now c = sound c.args.permutation (search rules) (sym (number_is (goal.at.Else-number-ne0 c).After-digits-found) ∙ c.if-number-ne0.false)
-
-row_is : (c : Else-number-ne0) → c.digits-found.result.row ≡ row (digits c.args.permutation.n (list_of c.args.permutation))
+row_is : (c : In_ok-row) → c.in_ok-row.row ≡ row (digits c.args.permutation.n (list_of c.args.permutation))
 unfolding digits_answer
-row_is c = ap (λ (d : Digits). d.row) c.digits-found.ensures ∙ rw (sound-now c).fault
+row_is c = ap (λ (d : Digits). d.row) c.in_ok-row.ensures ∙ rw (sound-now c).fault
 
 pub row_value-requires : goal.row_value-requires
 row_value-requires c =
     let p = c.args.permutation in
-    (omega (arith, (sound-now (goal.at.row_value-requires c).Else-number-ne0).few), rw (row_is (goal.at.row_value-requires c).Else-number-ne0) (digits_bounded p.n (list_of p) (sound-now (goal.at.row_value-requires c).Else-number-ne0).many))
+    let done = (goal.at.row_value-requires c).In_ok-row in
+    (omega (arith, (sound-now done).few), rw (row_is done) (digits_bounded p.n (list_of p) (sound-now done).many))
 
 pub returns : goal.returns
 unfolding rank_answer
 returns c =
     let p = c.args.permutation in
-    rw ((sound-now (goal.at.returns c).Else-number-ne0).fault, c.row_value.ensures, row_is (goal.at.returns c).Else-number-ne0, row_rank p.n (list_of p) (sound-now (goal.at.returns c).Else-number-ne0).many)
+    let done = (goal.at.returns c).In_ok-row in
+    rw ((sound-now done).fault, c.row_value.ensures, row_is done, row_rank p.n (list_of p) (sound-now done).many)

@@ -1,10 +1,7 @@
--- `ranking::rank::row_value` meets its contract. The loop's invariant: the sum is that of the first i digits. Assumes nothing.
-use Prim.Native.Nat.{◌-◌}
+-- `ranking::rank::row_value` meets its contract. The loop's invariant: the sum is that of the digits read so far. Assumes nothing.
+use lib.ListN.{length}
 use Rattle.ranking.proofs.Values.{Summed}
 use Rattle.ranking.proofs.rank.row_value.Given as goal
 
-abbrev pub invariant-loop-i : goal.invariant-loop-i
-invariant-loop-i l = Summed l.row l.n l.i l.rank
-
-abbrev pub decreases-loop-i : goal.decreases-loop-i
-decreases-loop-i l = l.n - l.i
+abbrev pub invariant-loop-digit : goal.invariant-loop-digit
+invariant-loop-digit l = Summed l.fn.row l.n (length l.yielded) l.rank

@@ -1,20 +1,13 @@
 -- `ranking::unrank::fill`, which calls itself, meets its contract. It has the cells below m put in, read the other way round from the spot of m on,
 -- and puts m in at that spot. The measure is m. Assumes nothing.
 use mathlib.Core.Path.{◌∙◌}
-use mathlib.Core.Bool.{not}
-use Prim.Native.Nat.{◌-◌}
 use native.Mathlib.Nat.{mod-lt}
 use native.Mathlib.Omega.{arith}
-use Rattle.ranking.proofs.Unranking.{fill_none, fill_more, fill_length}
+use Rattle.ranking.proofs.Unranking.{fill_none, fill_more}
 use Rattle.ranking.proofs.unrank.+fill.Goals as goal
 
 pub passed_by_digit-p-requires : goal.passed_by_digit-p-requires
 passed_by_digit-p-requires t c = (mod-lt c.args.rank c.if-m-gt0.true, omega arith)
-
-pub put_in-requires : goal.put_in-requires
-put_in-requires t c =
-    let a = c.args in
-    (omega arith, omega arith, fill_length (not a.down) (a.m - 1) _ _ a.cells.now _ (omega arith) c.fill.ensures ∙ c.requires.2)
 
 pub returns-then-m-gt0 : goal.returns-then-m-gt0
 returns-then-m-gt0 t c =

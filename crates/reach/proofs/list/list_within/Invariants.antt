@@ -1,6 +1,6 @@
 -- `reach::list::list_within` meets its contract: what is listed, and then what is left, is the whole. Assumes nothing.
 use mathlib.Core.List.{flatten}
-use Prim.Native.Nat.{◌+◌, ◌-◌, ◌≤◌}
+use Prim.Native.Nat.{◌+◌}
 use lib.ListN.{take}
 use Rattle.reach.specs.Reach.{within_reach}
 use Rattle.reach.specs.Led.{led}
@@ -8,7 +8,4 @@ use Rattle.reach.proofs.Pieces.{NumbersLeft}
 use Rattle.reach.proofs.list.list_within.Given as goal
 
 abbrev pub invariant-loop-d : goal.invariant-loop-d
-invariant-loop-d l = (l.d ≤ l.r + 1) × NumbersLeft (led l.n l.cells 0) l.initial.list 0 (flatten (within_reach l.n (take l.n l.cells) l.r)) (l.r + 1) l.list l.at l.d
-
-abbrev pub decreases-loop-d : goal.decreases-loop-d
-decreases-loop-d l = l.r + 1 - l.d
+invariant-loop-d l = NumbersLeft (led l.n l.cells 0) l.initial.list 0 (flatten (within_reach l.n (take l.n l.cells) l.r)) (l.r + 1) l.list l.at l.d

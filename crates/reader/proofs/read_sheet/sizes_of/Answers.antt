@@ -1,22 +1,28 @@
 -- `reader::read_sheet::sizes_of` meets its contract: the row holds the numbers of cells of the groups passed. Assumes nothing.
-use mathlib.Core.Path.{sym, ap, ◌∙◌}
+use mathlib.Core.Path.{◌≡◌, sym, ap, ◌∙◌}
 use mathlib.Core.List.{[]}
-use lib.ListN.{length, get_or-map}
-use Rattle.theory.proofs.FilledRow.{filled_more, row_none, row_all}
-use Rattle.sheet.specs.Held.{groups_in}
+use Prim.Native.Nat.{◌<◌}
+use native.Mathlib.Omega.{arith}
+use lib.ListN.{length, take, length-map, get_or-map}
+use lib.Seq.{get_or-take}
+use Rattle.theory.proofs.FilledRow.{filled_more, row_all}
+use Rattle.sheet.specs.Held.{levels_of, groups_in}
 use Rattle.sheet.specs.declared.held.Group.{Group}
-use Rattle.sheet.proofs.InMemory.{map_count, held_at}
+use Rattle.sheet.proofs.InMemory.{held_count, held_at}
 use Rattle.reader.proofs.read_sheet.sizes_of.Goals as goal
+use Rattle.reader.proofs.read_sheet.sizes_of.Goals.{At-loop-g}
 
-pub loop-g-init : goal.loop-g-init
-loop-g-init c = row_none 64 0 (map_count c.requires length) c.requires.few
+-- as many groups as are counted are there
+counted : (c : At-loop-g) → let groups = c.args.groups.now in length (take groups.count groups.list) ≡ groups.count
+counted c = sym (length-map (take c.args.groups.now.count c.args.groups.now.list) levels_of) ∙ sym (held_count c.requires)
 
 pub loop-g-preserved : goal.loop-g-preserved
 loop-g-preserved c =
     let h = c.requires in
-    let more = c.loop-g-test.true in
-    let entry = get_or-map length (groups_in c.args.groups) c.loop-g.g [] in
-    filled_more c.loop-g.invariant more 0 (ap (λ (g : Group). g.n) (held_at h _ more _) ∙ sym entry)
+    let groups = c.args.groups.now in
+    let more : c.loop-g.g < groups.count = omega (arith, counted (goal.at.loop-g-preserved c).At-loop-g) in
+    let entry = get_or-map length (groups_in groups) c.loop-g.g [] in
+    filled_more c.loop-g.invariant more 0 (ap (λ (g : Group). g.n) (get_or-take groups.count groups.list c.loop-g.g _ more ∙ held_at h _ more _) ∙ sym entry)
 
 pub returns : goal.returns
-returns c = row_all 64 0 c.loop-g.invariant c.loop-g-test.false
+returns c = row_all 64 0 c.loop-g.invariant (omega (arith, counted (goal.at.returns c).At-loop-g))

@@ -4,6 +4,3 @@ use Rattle.rewriting.proofs.raise.push_first.Given as goal
 
 abbrev pub invariant-loop-i : goal.invariant-loop-i
 invariant-loop-i l = Raising l.initial.levels l.cells l.r l.top l.levels l.had l.i
-
-abbrev pub decreases-loop-i : goal.decreases-loop-i
-decreases-loop-i l = l.i

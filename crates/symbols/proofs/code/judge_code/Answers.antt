@@ -1,43 +1,35 @@
--- `symbols::code::judge_code` meets its contract: each test decides the number. Assumes nothing.
-use mathlib.Core.Path.{◌≡◌, ap, ◌∙◌}
-use Prim.Native.Nat.{ℕ}
+-- `symbols::code::judge_code` meets its contract: the test decides the number. Assumes nothing.
+use mathlib.Core.Path.{ap, ◌∙◌}
+use Prim.Native.Nat.{ℕ, ◌≤◌}
 use native.Mathlib.Omega.{arith}
-use lib.ListN.{get_or}
-use Rattle.theory.specs.Factorial.{factorial}
+use borrow.Author.Rules.{rules}
 use Rattle.theory.specs.Prefix.{prefix_length}
+use Rattle.theory.specs.Factorial.{factorial}
 use Rattle.theory.proofs.Refusal.{refused, answered}
-use Rattle.ranking.proofs.Table.{table_at}
-use Rattle.symbols.specs.ByCode.{code_judged}
-use Rattle.symbols.specs.declared.code.Code.{Code}
-use Rattle.symbols.proofs.Codes.{code_none, code_many, code_done}
+use Rattle.symbols.specs.ByCode.{Code, code_judged}
+use Rattle.symbols.proofs.Codes.{code_out, code_done}
 use Rattle.symbols.proofs.code.judge_code.Goals as goal
-use Rattle.symbols.proofs.code.judge_code.Goals.{After-factorial_table-table}
+use Rattle.symbols.proofs.code.judge_code.Goals.{Else-not-contains}
 
 -- the answer by its number
 abbrev codeWith : ℕ → ℕ → Code
 codeWith number length = record { number = number; length = length }
 
--- what the second test compares with
-limit : (c : After-factorial_table-table) → let n = c.args.n in get_or c.factorial_table-table.result n 0 ≡ factorial n
-limit c = table_at c.factorial_table-table.ensures _ c.requires
-
-pub returns-then-m-eq0 : goal.returns-then-m-eq0
+pub returns-then-not-contains : goal.returns-then-not-contains
 unfolding code_judged
-returns-then-m-eq0 c = let a = c.args in refused codeWith (prefix_length a.n a.m) 0 (code_none a.n a.m (omega (arith, c.if-m-eq0.true))) (λ z. omega arith)
-
-pub returns-then-table-n : goal.returns-then-table-n
-unfolding code_judged
-returns-then-table-n c =
+returns-then-not-contains c =
     let a = c.args in
-    refused codeWith (prefix_length a.n a.m) 0 (code_many a.n a.m (omega (arith, c.if-table-n.true, limit (goal.at.returns-then-table-n c).After-factorial_table-table))) (λ z. omega arith)
+    refused codeWith (prefix_length a.n a.m) 0 (code_out a.n a.m (λ low high. absurd (search rules))) (λ z. omega arith)
 
-pub prefix_length-requires : goal.prefix_length-requires
-prefix_length-requires c =
-    (c.factorial_table-table.ensures, c.requires, omega (arith, c.if-m-eq0.false), omega (arith, c.if-table-n.false, limit (goal.at.prefix_length-requires c).After-factorial_table-table))
+range : (c : Else-not-contains) → (1 ≤ c.args.m) × (c.args.m ≤ factorial c.args.n)
+range c =
+    let low : 1 ≤ c.args.m = search rules in
+    let high : c.args.m ≤ c.small_factorial.result = search rules in
+    (low, omega (arith, c.small_factorial.ensures))
 
 pub returns : goal.returns
 unfolding code_judged
 returns c =
     let a = c.args in
-    let done = code_done a.n a.m (omega (arith, c.if-m-eq0.false)) (omega (arith, c.if-table-n.false, limit (goal.at.returns c).After-factorial_table-table)) in
-    ap (codeWith 0) c.prefix_length.ensures ∙ answered codeWith (prefix_length a.n a.m) 0 done
+    let r = range (goal.at.returns c).Else-not-contains in
+    ap (codeWith 0) c.prefix_length.ensures ∙ answered codeWith (prefix_length a.n a.m) 0 (code_done a.n a.m r.0 r.1)

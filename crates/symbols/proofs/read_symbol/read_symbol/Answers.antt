@@ -1,42 +1,40 @@
 -- `symbols::read_symbol::read_symbol` meets its contract: each test decides the number, and past them the permutation is read by the code. Assumes nothing.
-use mathlib.Core.Path.{◌≡◌, sym, ◌∙◌}
+use mathlib.Core.Path.{◌≡◌, refl, sym, ◌∙◌}
 use lib.ListN.{length}
+use Rattle.std.proofs.lemmas.Result.{err_from_is_err_and}
 use Rattle.theory.proofs.Refusal.{read_done}
-use Rattle.charge.proofs.ReadLevels.{Standing, number_is, standing}
+use Rattle.permutation.proofs.Refusals.{not_done}
+use Rattle.charge.proofs.ReadLevels.{number_is, standing}
 use Rattle.symbols.specs.Answers.{code_of}
 use Rattle.symbols.proofs.Codes.{judged_number, judged_range, judged_length}
 use Rattle.symbols.proofs.Symbols.{record_asked, record_read, symbol_refused, symbol_fault, symbol_code, symbol_given}
 use Rattle.symbols.proofs.read_symbol.read_symbol.Goals as goal
-use Rattle.symbols.proofs.read_symbol.read_symbol.Goals.{Else-code-ne0, Else-standing-ne0}
+use Rattle.symbols.proofs.read_symbol.read_symbol.Goals.{In_ok-permutation, In_ok-p}
 
--- what the tests have shown: a permutation was read, and there is such a code
-read : (c : Else-standing-ne0) → Standing c.args.levels.now c.read-standing.result
-read c = standing _ c.read-standing.ensures c.if-standing-ne0.false
+pub returns-in_err-permutation : goal.returns-in_err-permutation
+returns-in_err-permutation c =
+    let p = err_from_is_err_and c.from_residual.result c.from_residual.ensures.1 in
+    let ne = not_done c.in_err-permutation.field-0.0 in
+    rw (p.1, p.2) (symbol_refused _ _ (symbol_fault _ _ (number_is _ c.in_err-permutation.ensures) ne) ne)
 
-code : (c : Else-code-ne0) → let a = c.args in code_of (length a.levels.now) a.m ≡ 0
-code c = sym (judged_number _ _ c.judge_code-code.ensures) ∙ c.if-code-ne0.false
+pub judge_code-requires : goal.judge_code-requires
+judge_code-requires c = (standing _ c.in_ok-permutation.ensures refl).levels.many
 
-pub returns-then-standing-ne0 : goal.returns-then-standing-ne0
-returns-then-standing-ne0 c =
-    let ne = c.if-standing-ne0.true in
-    c.no_symbol.ensures ∙ symbol_refused _ _ (symbol_fault _ _ (number_is _ c.read-standing.ensures) ne) ne
-
-pub judge_code-code-requires : goal.judge_code-code-requires
-judge_code-code-requires c = (read c).levels.many
-
-pub returns-then-code-ne0 : goal.returns-then-code-ne0
-returns-then-code-ne0 c =
-    let ne = c.if-code-ne0.true in
-    c.no_symbol-then-code-ne0.ensures
-    ∙ symbol_refused _ _ (symbol_code _ _ (read_done (read (goal.at.returns-then-code-ne0 c).Else-standing-ne0).levels) (judged_number _ _ c.judge_code-code.ensures) ne) ne
+pub returns-in_err-p : goal.returns-in_err-p
+returns-in_err-p c =
+    let p = err_from_is_err_and c.from_residual-in_err-p.result c.from_residual-in_err-p.ensures.1 in
+    let ne = not_done c.in_err-p.field-0.0 in
+    let r = standing _ c.in_ok-permutation.ensures refl in
+    rw (p.1, p.2) (symbol_refused _ _ (symbol_code _ _ (read_done r.levels) (judged_number _ _ c.in_err-p.ensures) ne) ne)
 
 pub leading_symbol-requires : goal.leading_symbol-requires
 leading_symbol-requires c =
-    let r = read (goal.at.leading_symbol-requires c).Else-standing-ne0 in
-    let e = c.judge_code-code.ensures in
-    record_asked _ r.levels.few r.levels.many r.is _ (judged_range _ _ e c.if-code-ne0.false).1 (judged_length _ _ e c.if-code-ne0.false)
+    let r = standing _ c.in_ok-permutation.ensures refl in
+    let e = c.in_ok-p.ensures in
+    record_asked _ r.levels.few r.levels.many r.is _ (judged_range _ _ e refl).1 (judged_length _ _ e refl)
 
 pub returns : goal.returns
 returns c =
-    let r = read (goal.at.returns c).Else-standing-ne0 in
-    record_read _ r.levels.few r.levels.many r.is _ c.leading_symbol.ensures ∙ symbol_given _ _ (read_done r.levels) (code (goal.at.returns c).Else-code-ne0)
+    let r = standing _ c.in_ok-permutation.ensures refl in
+    let code : code_of (length c.args.levels.now) c.args.m ≡ 0 = sym (judged_number _ _ c.in_ok-p.ensures) in
+    record_read _ r.levels.few r.levels.many r.is _ c.leading_symbol.ensures ∙ symbol_given _ _ (read_done r.levels) code

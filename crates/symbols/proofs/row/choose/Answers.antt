@@ -2,25 +2,17 @@
 -- Assumes nothing.
 use mathlib.Core.Path.{refl}
 use native.Mathlib.Omega.{arith}
-use Rattle.symbols.proofs.Choosing.{start, long, turn, step, end}
+use borrow.Author.Rules.{rules}
+use Rattle.symbols.proofs.Choosing.{start, turn, step, end}
 use Rattle.symbols.proofs.row.choose.Goals as goal
 
 pub loop-i-init : goal.loop-i-init
 loop-i-init c =
     let pre = c.requires in
-    start pre.0 pre.1 (rw (← pre.2) pre.3) pre.4 pre.5 pre.2
-
-pub overflow_sub-weight : goal.overflow_sub-weight
-overflow_sub-weight c = omega (arith, c.loop-i.invariant.short, c.loop-i-test.true)
-
-pub nonzero_div-weight : goal.nonzero_div-weight
-nonzero_div-weight c = omega (arith, c.loop-i.invariant.short, c.loop-i-test.true)
+    start pre.0 pre.1 (rw (← pre.2) pre.3) (search rules) pre.4 pre.2
 
 pub nonzero_div-from : goal.nonzero_div-from
 nonzero_div-from c = (turn c.loop-i.invariant c.loop-i-test.true).0
-
-pub overflow_add-from : goal.overflow_add-from
-overflow_add-from c = omega (arith, (turn c.loop-i.invariant c.loop-i-test.true).1)
 
 pub bounds-cells-from : goal.bounds-cells-from
 bounds-cells-from c = (turn c.loop-i.invariant c.loop-i-test.true).1
@@ -28,7 +20,7 @@ bounds-cells-from c = (turn c.loop-i.invariant c.loop-i-test.true).1
 pub put_in-requires : goal.put_in-requires
 put_in-requires c =
     let inv = c.loop-i.invariant in
-    ((turn inv c.loop-i-test.true).1, omega arith, long inv)
+    ((turn inv c.loop-i-test.true).1, omega arith)
 
 pub nonzero_rem-rest : goal.nonzero_rem-rest
 nonzero_rem-rest c = (turn c.loop-i.invariant c.loop-i-test.true).0

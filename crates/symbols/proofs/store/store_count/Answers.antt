@@ -1,25 +1,27 @@
 -- `symbols::store::store_count` meets its contract: the cells gone up are above all that come after them. Assumes nothing.
 use mathlib.Core.Path.{◌≡◌, ap, ◌∙◌}
 use native.Mathlib.Omega.{arith}
-use borrow.Author.Rules.{part_to_end}
+use borrow.Author.Rules.{rules, part_to_end}
+use lib.ListN.{length}
 use Rattle.theory.specs.Levels.{highest}
-use Rattle.symbols.proofs.Leading.{start, step, end}
+use Rattle.symbols.proofs.Leading.{going, going_end, going_on, gone}
 use Rattle.symbols.proofs.store.store_count.Goals as goal
 
-pub loop-r-init : goal.loop-r-init
-loop-r-init c =
-    start c.requires (c.highest-bound.ensures ∙ ap highest (part_to_end c.args.along.now c.args.p))
-
-pub bounds-along-r : goal.bounds-along-r
-bounds-along-r c = let v = c.loop-r.invariant in omega (arith, v.within, v.short)
+pub loop-i-init : goal.loop-i-init
+loop-i-init c = (going c.requires (search rules) (c.highest-bound.ensures ∙ ap highest (part_to_end c.args.along.now c.args.p)), search rules)
 
 pub returns-then-level-bound : goal.returns-then-level-bound
-returns-then-level-bound c = end c.loop-r.invariant (λ pos. omega (arith, c.if-level-bound.true))
+returns-then-level-bound c =
+    let v = c.loop-i.invariant in
+    let s = c.in-Some.ensures.steps in
+    let at : c.in-Some.i ≡ length c.next.new.self.iter.iter.rest.now = omega (arith, v.1, s) in
+    rw at (going_end v.0 _ _ s.1.0 c.if-level-bound.true)
 
-pub loop-r-preserved : goal.loop-r-preserved
-loop-r-preserved c = step c.loop-r.invariant c.loop-r-test.true (omega (arith, c.if-level-bound.false))
+pub loop-i-preserved : goal.loop-i-preserved
+loop-i-preserved c =
+    let v = c.loop-i.invariant in
+    let s = c.in-Some.ensures.steps in
+    (going_on v.0 _ _ s.1.0 c.if-level-bound.false, s.0 ∙ v.1)
 
 pub returns : goal.returns
-returns c =
-    let none : c.loop-r.r ≡ 0 = omega (arith, c.loop-r-test.false) in
-    rw none at (end c.loop-r.invariant (λ pos. absurd (omega (arith, c.loop-r-test.false))))
+returns c = gone c.loop-i.invariant.0 (search rules)

@@ -1,28 +1,31 @@
 -- `text::bench::lay` meets its contract: the line of the fault, or those of commands and groups. Assumes nothing.
+use mathlib.Core.Path.{refl}
 use native.Mathlib.Omega.{arith}
+use Rattle.permutation.proofs.Refusals.{not_done}
 use Rattle.sheet.proofs.Putting.{puts_then}
 use Rattle.text.proofs.Printable.{Printable, printable, fault_text}
 use Rattle.text.proofs.bench.lay.Goals as goal
-use Rattle.text.proofs.bench.lay.Goals.{Else-number-ne0}
+use Rattle.text.proofs.bench.lay.Goals.{In-Ok}
 
--- past the test the outcome can be printed
-printed : (c : Else-number-ne0) → Printable c.args.sheet.now c.work_sheet-worked.result.outcome
-printed c = printable _ _ c.work_sheet-worked.ensures.answer c.if-number-ne0.false
-
-pub returns-then-number-ne0 : goal.returns-then-number-ne0
-returns-then-number-ne0 c =
-    record { puts = rw (fault_text _ _ c.work_sheet-worked.ensures.answer c.if-number-ne0.true) at c.put_fault.ensures.puts; short = omega arith }
+-- an outcome can be printed
+printed : (c : In-Ok) → Printable c.args.sheet.now c.in-Ok.outcome
+printed c = printable _ _ c.in-Ok.ensures.answer refl
 
 pub put_commands-at-requires : goal.put_commands-at-requires
-put_commands-at-requires c = let p = printed (goal.at.put_commands-at-requires c).Else-number-ne0 in (p.few, p.long, omega (arith, p.few))
+put_commands-at-requires c = let p = printed (goal.at.put_commands-at-requires c).In-Ok in (p.few, omega (arith, p.few))
 
 pub put_groups-requires : goal.put_groups-requires
 put_groups-requires c =
-    let p = printed (goal.at.put_groups-requires c).Else-number-ne0 in
+    let p = printed (goal.at.put_groups-requires c).In-Ok in
     (omega (arith, p.few, p.groups_held.few), p.groups_held)
 
-pub returns : goal.returns
-returns c =
-    let p = printed (goal.at.returns c).Else-number-ne0 in
+pub returns-in-Ok : goal.returns-in-Ok
+returns-in-Ok c =
+    let p = printed (goal.at.returns-in-Ok c).In-Ok in
     let put = puts_then c.put_commands-at.ensures.puts c.put_groups.ensures.puts in
     record { puts = rw p.text at put; short = omega (arith, p.few, p.groups_held.few) }
+
+pub returns-in-Err : goal.returns-in-Err
+returns-in-Err c =
+    let line = rw c.number.ensures at c.put_fault.ensures.puts in
+    record { puts = rw (fault_text _ _ c.in-Err.ensures.answer (not_done c.in-Err.refusal)) at line; short = omega arith }

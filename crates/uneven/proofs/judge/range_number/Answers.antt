@@ -1,19 +1,16 @@
--- `uneven::judge::range_number` meets its contract: each test decides the number. Assumes nothing.
-use mathlib.Core.Path.{◌≡◌}
+-- `uneven::judge::range_number` meets its contract: the test decides the number. Assumes nothing.
 use native.Mathlib.Omega.{arith}
-use lib.ListN.{get_or}
-use Rattle.theory.specs.Factorial.{factorial}
-use Rattle.ranking.proofs.Table.{table_at}
-use Rattle.uneven.proofs.Ranges.{range_past, range_done}
+use borrow.Author.Rules.{rules}
+use Rattle.uneven.proofs.Ranges.{range_out, range_done}
 use Rattle.uneven.proofs.judge.range_number.Goals as goal
-use Rattle.uneven.proofs.judge.range_number.Goals.{Else-m-gt64}
+use Rattle.uneven.proofs.judge.range_number.Goals.{then-not-contains-via-then-not-contains, then-not-contains-via-else-not-contains+then-small_factorial-m}
 
--- the largest m
-limit : (c : Else-m-gt64) → let a = c.args in get_or a.table.now a.n 0 ≡ factorial a.n
-limit c = table_at c.requires.0 c.args.n c.requires.1
-
-pub returns-then-table-n : goal.returns-then-table-n
-returns-then-table-n c = range_past _ _ (omega arith) (omega arith) (omega (arith, c.if-table-n.true, limit (goal.at.returns-then-table-n c).Else-m-gt64))
+pub returns-then-not-contains : goal.returns-then-not-contains
+returns-then-not-contains c =
+    elim c.then-not-contains.branch [
+      | then-not-contains-via-then-not-contains w ↦ range_out _ _ (λ low high most. absurd (search rules))
+      | then-not-contains-via-else-not-contains+then-small_factorial-m w ↦ range_out _ _ (λ low high most. omega (arith, w.if-small_factorial-m.true, w.small_factorial.ensures))
+    ]
 
 pub returns : goal.returns
-returns c = range_done _ _ (omega arith) (omega arith) (omega (arith, c.if-table-n.false, limit (goal.at.returns c).Else-m-gt64))
+returns c = range_done _ _ (search rules) (search rules) (omega (arith, c.if-small_factorial-m.false, c.small_factorial.ensures))

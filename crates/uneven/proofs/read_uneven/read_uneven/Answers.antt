@@ -1,70 +1,72 @@
 -- `uneven::read_uneven::read_uneven` meets its contract: each test decides the number, and past them the permutation is read by the code. Assumes nothing.
-use mathlib.Core.Path.{◌≡◌, sym, ◌∙◌}
+use mathlib.Core.Path.{◌≡◌, refl, sym, ◌∙◌}
 use lib.ListN.{length}
+use Rattle.std.proofs.lemmas.Result.{err_from_is_err_and}
 use Rattle.theory.proofs.Refusal.{read_done}
-use Rattle.charge.proofs.ReadLevels.{Standing, number_is, standing}
-use Rattle.uneven.specs.Answers.{range_of}
-use Rattle.uneven.proofs.Ranges.{Fitting, fitting, fitting_done, has_code}
+use Rattle.permutation.proofs.Refusals.{not_done}
+use Rattle.charge.proofs.ReadLevels.{number_is, standing}
+use Rattle.symbols.specs.Answers.{as_symbol}
+use Rattle.uneven.specs.Answers.{misfit, range_of, uneven_symbol}
+use Rattle.uneven.proofs.Ranges.{Fitting, fitting, has_code}
 use Rattle.uneven.proofs.UnevenReading.{symbol_misfit, symbol_fault, symbol_value, symbol_given, answered, symbol_refused, record_asked, record_read}
 use Rattle.uneven.proofs.read_uneven.read_uneven.Goals as goal
-use Rattle.uneven.proofs.read_uneven.read_uneven.Goals.{Else-number-ne0, Else-range-ne0, Else-standing-ne0}
+use Rattle.uneven.proofs.read_uneven.read_uneven.Goals.{In_ok-misfit, In_ok-range_number}
 
 -- past the first test
-fits : (c : Else-number-ne0) → let a = c.args in Fitting (length a.levels.now) a.weights.now a.m
-fits c = fitting (sym c.misfit-number.ensures ∙ c.if-number-ne0.false)
-
--- a permutation was read
-read : (c : Else-standing-ne0) → Standing c.args.levels.now c.read-standing.result
-read c = standing _ c.read-standing.ensures c.if-standing-ne0.false
+fits : (c : In_ok-misfit) → let a = c.args in misfit (length a.levels.now) (length a.weights.now) a.m ≡ 0
+fits c = sym c.in_ok-misfit.ensures
 
 -- there is such a code
-ranges : (c : Else-range-ne0) → let a = c.args in
-    range_of (length a.levels.now) a.m ≡ 0
-ranges c = sym c.range_number-range.ensures ∙ c.if-range-ne0.false
+ranges : (c : In_ok-range_number) → let a = c.args in range_of (length a.levels.now) a.m ≡ 0
+ranges c = sym c.in_ok-range_number.ensures
 
-pub returns-then-number-ne0 : goal.returns-then-number-ne0
-returns-then-number-ne0 c =
+pub returns-in_err-misfit : goal.returns-in_err-misfit
+returns-in_err-misfit c =
     let a = c.args in
-    let ne = c.if-number-ne0.true in
-    let p = answered a.levels.now a.weights.now a.m
-    (c.no_symbol.ensures ∙ symbol_refused a.levels.now a.weights.now a.m (symbol_misfit a.levels.now a.weights.now a.m c.misfit-number.ensures ne) ne) in
-    record { answer = p.0; by_code = p.1.0; none = p.1.1 }
+    let r = c.from_residual.result in
+    let p = err_from_is_err_and r c.from_residual.ensures.1 in
+    let ne = not_done c.in_err-misfit.field-0.0 in
+    let is : as_symbol r ≡ uneven_symbol a.levels.now a.weights.now a.m = rw (p.1, p.2) (symbol_refused a.levels.now a.weights.now a.m (symbol_misfit a.levels.now a.weights.now a.m c.in_err-misfit.ensures ne) ne) in
+    let q = answered a.levels.now a.weights.now a.m r is in
+    record { answer = q.0; by_code = q.1; none = q.2 }
 
-pub returns-then-standing-ne0 : goal.returns-then-standing-ne0
-returns-then-standing-ne0 c =
+pub returns-in_err-permutation : goal.returns-in_err-permutation
+returns-in_err-permutation c =
     let a = c.args in
-    let ne = c.if-standing-ne0.true in
-    let p = answered a.levels.now a.weights.now a.m
-    (c.no_symbol-then-standing-ne0.ensures
-    ∙ symbol_refused a.levels.now a.weights.now a.m
-    (symbol_fault a.levels.now a.weights.now a.m (fitting_done (fits (goal.at.returns-then-standing-ne0 c).Else-number-ne0)) (number_is a.levels.now c.read-standing.ensures) ne) ne) in
-    record { answer = p.0; by_code = p.1.0; none = p.1.1 }
+    let r = c.from_residual-in_err-permutation.result in
+    let p = err_from_is_err_and r c.from_residual-in_err-permutation.ensures.1 in
+    let ne = not_done c.in_err-permutation.field-0.0 in
+    let is : as_symbol r ≡ uneven_symbol a.levels.now a.weights.now a.m =
+    rw (p.1, p.2) (symbol_refused a.levels.now a.weights.now a.m (symbol_fault a.levels.now a.weights.now a.m (fits (goal.at.returns-in_err-permutation c).In_ok-misfit) (number_is a.levels.now c.in_err-permutation.ensures) ne) ne) in
+    let q = answered a.levels.now a.weights.now a.m r is in
+    record { answer = q.0; by_code = q.1; none = q.2 }
 
-pub range_number-range-requires : goal.range_number-range-requires
-range_number-range-requires c = (c.factorial_table-table.ensures, (read (goal.at.range_number-range-requires c).Else-standing-ne0).levels.many)
+pub range_number-requires : goal.range_number-requires
+range_number-requires c = (standing _ c.in_ok-permutation.ensures refl).levels.many
 
-pub returns-then-range-ne0 : goal.returns-then-range-ne0
-returns-then-range-ne0 c =
+pub returns-in_err-range_number : goal.returns-in_err-range_number
+returns-in_err-range_number c =
     let a = c.args in
-    let ne = c.if-range-ne0.true in
-    let p = answered a.levels.now a.weights.now a.m
-    (c.no_symbol-then-range-ne0.ensures
-    ∙ symbol_refused a.levels.now a.weights.now a.m
-    (symbol_value a.levels.now a.weights.now a.m (fitting_done (fits (goal.at.returns-then-range-ne0 c).Else-number-ne0)) (read_done (read (goal.at.returns-then-range-ne0 c).Else-standing-ne0).levels) c.range_number-range.ensures ne) ne) in
-    record { answer = p.0; by_code = p.1.0; none = p.1.1 }
+    let r = c.from_residual-in_err-range_number.result in
+    let p = err_from_is_err_and r c.from_residual-in_err-range_number.ensures.1 in
+    let ne = not_done c.in_err-range_number.field-0.0 in
+    let now = standing _ c.in_ok-permutation.ensures refl in
+    let is : as_symbol r ≡ uneven_symbol a.levels.now a.weights.now a.m =
+    rw (p.1, p.2) (symbol_refused a.levels.now a.weights.now a.m (symbol_value a.levels.now a.weights.now a.m (fits (goal.at.returns-in_err-range_number c).In_ok-misfit) (read_done now.levels) c.in_err-range_number.ensures ne) ne) in
+    let q = answered a.levels.now a.weights.now a.m r is in
+    record { answer = q.0; by_code = q.1; none = q.2 }
 
 pub symbol_of-requires : goal.symbol_of-requires
 symbol_of-requires c =
-    let r = read (goal.at.symbol_of-requires c).Else-standing-ne0 in
-    let v = fits (goal.at.symbol_of-requires c).Else-number-ne0 in
-    let asked = record_asked _ _ r.levels.few r.levels.many r.is (has_code v (ranges (goal.at.symbol_of-requires c).Else-range-ne0)) in
-    (c.factorial_table-table.ensures, asked.0, asked.1)
+    let r = standing _ c.in_ok-permutation.ensures refl in
+    let v : Fitting (length c.args.levels.now) c.args.weights.now c.args.m = fitting (fits (goal.at.symbol_of-requires c).In_ok-misfit) in
+    record_asked _ _ r.levels.few r.levels.many r.is (has_code v (ranges (goal.at.symbol_of-requires c).In_ok-range_number))
 
 pub returns : goal.returns
 returns c =
     let a = c.args in
-    let r = read (goal.at.returns c).Else-standing-ne0 in
-    let p = answered a.levels.now a.weights.now a.m
+    let r = standing _ c.in_ok-permutation.ensures refl in
+    let q = answered a.levels.now a.weights.now a.m c.symbol_of.result
     (record_read a.levels.now a.weights.now r.levels.few r.levels.many r.is c.symbol_of.ensures
-    ∙ symbol_given a.levels.now a.weights.now a.m (fitting_done (fits (goal.at.returns c).Else-number-ne0)) (read_done r.levels) (ranges (goal.at.returns c).Else-range-ne0)) in
-    record { answer = p.0; by_code = p.1.0; none = p.1.1 }
+    ∙ symbol_given a.levels.now a.weights.now a.m (fits (goal.at.returns c).In_ok-misfit) (read_done r.levels) (ranges (goal.at.returns c).In_ok-range_number)) in
+    record { answer = q.0; by_code = q.1; none = q.2 }

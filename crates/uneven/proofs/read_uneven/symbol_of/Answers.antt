@@ -3,6 +3,8 @@ use mathlib.Core.Path.{◌∙◌}
 use native.Mathlib.Omega.{arith}
 use borrow.Author.Rules.{rules}
 use Rattle.permutation.proofs.Records.{Sound, sound}
+use Rattle.permutation.proofs.Refusals.{not_done}
+use Rattle.permutation.proofs.Checking.{check_number}
 use Rattle.symbols.proofs.Symbols.{row_spots}
 use Rattle.uneven.proofs.Booking.{length_short}
 use Rattle.uneven.proofs.SymbolLed.{read_idle, read_found}
@@ -10,31 +12,25 @@ use Rattle.uneven.proofs.read_uneven.symbol_of.Goals as goal
 use Rattle.uneven.proofs.read_uneven.symbol_of.Goals.{Start}
 
 is-sound : (c : Start) → Sound c.args.permutation
-is-sound c = sound c.args.permutation (search rules) c.requires.2
+is-sound c = sound c.args.permutation (search rules) c.requires.1
+
+-- the check of a permutation is not refused
+pub returns-in_err-spots : goal.returns-in_err-spots
+returns-in_err-spots c = absurd (not_done c.in_err-spots.field-0.0 (check_number _ c.in_err-spots.ensures ∙ c.requires.1))
 
 pub prefix_number-number-requires : goal.prefix_number-number-requires
 prefix_number-number-requires c =
-    row_spots (is-sound (goal.at.prefix_number-number-requires c).Start) (search rules) c.check.ensures (omega arith)
+    row_spots (is-sound (goal.at.prefix_number-number-requires c).Start) (search rules) c.in_ok-spots.ensures (omega arith)
 
-pub make_codebook-book-requires : goal.make_codebook-book-requires
-make_codebook-book-requires c = let pre = c.requires in (pre.0, pre.1)
+pub leading_index-requires : goal.leading_index-requires
+leading_index-requires c =
+    let v = c.requires.0 in
+    (v.many, v.most, λ i h. omega (arith, length_short v c.new-book.ensures i h))
 
-pub leading_index-k-requires : goal.leading_index-k-requires
-leading_index-k-requires c =
-    let pre = c.requires in
-    let book = c.make_codebook-book.ensures in
-    (pre.0, pre.1.many, pre.1.most, book.lengths_long, λ i h. omega (arith, length_short pre.1 book i h))
-
-pub returns-then-m-k : goal.returns-then-m-k
-returns-then-m-k c =
-    c.no_symbol.ensures
-    ∙ read_idle c.requires.1 c.make_codebook-book.ensures (is-sound (goal.at.returns-then-m-k c).Start).permutation c.prefix_number-number.ensures c.leading_index-k.ensures (omega (arith, c.if-m-k.true))
-
-pub bounds-symbols-k : goal.bounds-symbols-k
-bounds-symbols-k c =
-    omega (arith, c.if-m-k.false, c.requires.1.most)
+pub returns-in_default : goal.returns-in_default
+returns-in_default c =
+    read_idle c.requires.0 c.new-book.ensures (is-sound (goal.at.returns-in_default c).Start).permutation c.prefix_number-number.ensures c.in_default.ensures.index (omega arith)
 
 pub returns : goal.returns
 returns c =
-    read_found c.requires.1 c.make_codebook-book.ensures (is-sound (goal.at.returns c).Start).permutation c.prefix_number-number.ensures c.leading_index-k.ensures
-    (omega (arith, c.if-m-k.false)) c.wide_digit-symbol.ensures
+    read_found c.requires.0 c.new-book.ensures (is-sound (goal.at.returns c).Start).permutation c.prefix_number-number.ensures c.in-Some.ensures.index c.in-Some.ensures.found c.from.ensures

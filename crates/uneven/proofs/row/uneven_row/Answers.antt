@@ -1,50 +1,53 @@
 -- `uneven::row::uneven_row` meets its contract: each test decides the number, and past them the symbol's prefix leads the row. Assumes nothing.
-use mathlib.Core.Path.{◌≡◌, sym, ◌∙◌}
+use mathlib.Core.Path.{◌≡◌, sym}
+use lib.ListN.{length}
 use native.Mathlib.Omega.{arith}
-use Rattle.uneven.specs.Answers.{range_of}
-use Rattle.uneven.proofs.Ranges.{Fitting, fitting, fitting_done, no_range, no_such_symbol, symbol_done, has_code}
+use Rattle.std.proofs.lemmas.Result.{err_from_is_err_and}
+use Rattle.permutation.proofs.Refusals.{not_done}
+use Rattle.uneven.specs.Answers.{misfit, range_of}
+use Rattle.uneven.proofs.Ranges.{Fitting, fitting, no_range, no_such_symbol, symbol_done, has_code}
 use Rattle.uneven.proofs.UnevenRows.{row_refused, row_misfit, row_value, row_done}
 use Rattle.uneven.proofs.row.uneven_row.Goals as goal
-use Rattle.uneven.proofs.row.uneven_row.Goals.{Else-number-ne0, Else-range-ne0}
+use Rattle.uneven.proofs.row.uneven_row.Goals.{In_ok-misfit, In_ok-range_number}
 
 -- past the first test
-fits : (c : Else-number-ne0) → let a = c.args in Fitting a.n a.weights.now a.m
-fits c = fitting (sym c.misfit-number.ensures ∙ c.if-number-ne0.false)
+fits : (c : In_ok-misfit) → let a = c.args in misfit a.n (length a.weights.now) a.m ≡ 0
+fits c = sym c.in_ok-misfit.ensures
 
 -- past the second
-ranges : (c : Else-range-ne0) → let a = c.args in range_of a.n a.m ≡ 0
-ranges c = sym c.range_number-range.ensures ∙ c.if-range-ne0.false
+ranges : (c : In_ok-range_number) → let a = c.args in range_of a.n a.m ≡ 0
+ranges c = sym c.in_ok-range_number.ensures
 
-pub returns-then-number-ne0 : goal.returns-then-number-ne0
-returns-then-number-ne0 c =
+pub returns-in_err-misfit : goal.returns-in_err-misfit
+returns-in_err-misfit c =
     let a = c.args in
-    let ne = c.if-number-ne0.true in
-    c.no_prefix.ensures ∙ row_refused a.n a.weights.now a.m a.symbol (row_misfit a.n a.weights.now a.m a.symbol c.misfit-number.ensures ne) ne
+    let p = err_from_is_err_and c.from_residual.result c.from_residual.ensures.1 in
+    let ne = not_done c.in_err-misfit.field-0.0 in
+    rw (p.1, p.2) (row_refused a.n a.weights.now a.m a.symbol (row_misfit a.n a.weights.now a.m a.symbol c.in_err-misfit.ensures ne) ne)
 
-pub range_number-range-requires : goal.range_number-range-requires
-range_number-range-requires c = (c.factorial_table-table.ensures, omega (arith, (fits (goal.at.range_number-range-requires c).Else-number-ne0).many))
+pub range_number-requires : goal.range_number-requires
+range_number-requires c = let v : Fitting c.args.n c.args.weights.now c.args.m = fitting (fits (goal.at.range_number-requires c).In_ok-misfit) in omega (arith, v.many)
 
-pub returns-then-range-ne0 : goal.returns-then-range-ne0
-returns-then-range-ne0 c =
+pub returns-in_err-range_number : goal.returns-in_err-range_number
+returns-in_err-range_number c =
     let a = c.args in
-    let ne = c.if-range-ne0.true in
-    c.no_prefix-then-range-ne0.ensures
-    ∙ row_refused a.n a.weights.now a.m a.symbol
-    (row_value a.n a.weights.now a.m a.symbol (fitting_done (fits (goal.at.returns-then-range-ne0 c).Else-number-ne0)) (no_range _ _ _ c.range_number-range.ensures ne)) ne
+    let p = err_from_is_err_and c.from_residual-in_err-range_number.result c.from_residual-in_err-range_number.ensures.1 in
+    let ne = not_done c.in_err-range_number.field-0.0 in
+    rw (p.1, p.2) (row_refused a.n a.weights.now a.m a.symbol
+    (row_value a.n a.weights.now a.m a.symbol (fits (goal.at.returns-in_err-range_number c).In_ok-misfit) (no_range _ _ _ c.in_err-range_number.ensures ne)) ne)
 
 pub returns-then-m-symbol : goal.returns-then-m-symbol
 returns-then-m-symbol c =
     let a = c.args in
-    c.no_prefix-then-m-symbol.ensures
-    ∙ row_refused a.n a.weights.now a.m a.symbol
-    (row_value a.n a.weights.now a.m a.symbol (fitting_done (fits (goal.at.returns-then-m-symbol c).Else-number-ne0)) (no_such_symbol _ _ _ (ranges (goal.at.returns-then-m-symbol c).Else-range-ne0) (omega (arith, c.if-m-symbol.true)))) (λ z. omega arith)
+    row_refused a.n a.weights.now a.m a.symbol
+    (row_value a.n a.weights.now a.m a.symbol (fits (goal.at.returns-then-m-symbol c).In_ok-misfit) (no_such_symbol _ _ _ (ranges (goal.at.returns-then-m-symbol c).In_ok-range_number) (omega (arith, c.if-m-symbol.true)))) (λ z. omega arith)
 
 pub symbol_row-requires : goal.symbol_row-requires
 symbol_row-requires c =
-    let v = fits (goal.at.symbol_row-requires c).Else-number-ne0 in
-    (c.factorial_table-table.ensures, has_code v (ranges (goal.at.symbol_row-requires c).Else-range-ne0), omega (arith, v.entries, c.if-m-symbol.false))
+    let v : Fitting c.args.n c.args.weights.now c.args.m = fitting (fits (goal.at.symbol_row-requires c).In_ok-misfit) in
+    (has_code v (ranges (goal.at.symbol_row-requires c).In_ok-range_number), omega (arith, v.entries, c.if-m-symbol.false))
 
 pub returns : goal.returns
 returns c =
     let a = c.args in
-    row_done a.n a.weights.now a.m a.symbol (fitting_done (fits (goal.at.returns c).Else-number-ne0)) (symbol_done _ _ _ (ranges (goal.at.returns c).Else-range-ne0) (omega (arith, c.if-m-symbol.false))) c.symbol_row.ensures
+    row_done a.n a.weights.now a.m a.symbol (fits (goal.at.returns c).In_ok-misfit) (symbol_done _ _ _ (ranges (goal.at.returns c).In_ok-range_number) (omega (arith, c.if-m-symbol.false))) c.symbol_row.ensures

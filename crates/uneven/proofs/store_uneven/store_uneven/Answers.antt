@@ -1,44 +1,41 @@
--- `uneven::store_uneven::store_uneven` meets its contract: each test decides the number, and past them the prefix is stored. Assumes nothing.
-use mathlib.Core.Path.{sym, ◌∙◌}
-use native.Mathlib.Omega.{arith}
-use Rattle.symbols.proofs.Storing.{lead_refused, lead_fault, lead_code}
-use Rattle.uneven.proofs.UnevenStoring.{store_misfit, store_led, found_misfit, found_value, found_stored, found_done}
+-- `uneven::store_uneven::store_uneven` meets its contract: past the first test what the symbol's row is found to be is stored. Assumes nothing.
+use mathlib.Core.Path.{◌≡◌, refl, sym}
+use lib.ListN.{length}
+use Rattle.std.proofs.lemmas.Result.{err_from_is_err_and}
+use Rattle.permutation.specs.Refusals.{number_in}
+use Rattle.permutation.proofs.Refusals.{not_done}
+use Rattle.charge.specs.Answers.{as_pushes}
+use Rattle.symbols.specs.Answers.{LedBy}
+use Rattle.symbols.proofs.Storing.{Led, if_done, done_if}
+use Rattle.uneven.specs.Answers.{misfit, uneven_on, UnevenStored}
+use Rattle.uneven.proofs.UnevenStoring.{store_misfit, store_led, found_number, found_as, found_row}
 use Rattle.uneven.proofs.store_uneven.store_uneven.Goals as goal
+use Rattle.uneven.proofs.store_uneven.store_uneven.Goals.{In_ok-misfit}
 
--- a tie
-pub returns-then-group-ne0 : goal.returns-then-group-ne0
-returns-then-group-ne0 c =
+pub returns-in_err-misfit : goal.returns-in_err-misfit
+returns-in_err-misfit c =
     let a = c.args in
-    let past = found_value a.levels.now a.weights.now a.m a.symbol c.uneven_row-found.ensures c.if-found-eq-VALUE.true in
-    let ne = c.if-group-ne0.true in
-    let p = store_led a.levels.now a.weights.now a.m a.symbol past.0 (lead_refused _ _ _ c.no_pushes.ensures (lead_fault _ _ _ c.read_number-group.ensures ne) ne) in
-    record { answer = p.0; levels_left = p.1.0; stored = p.1.1.0; spent = p.1.1.1 }
+    let r = c.from_residual.result in
+    let p = err_from_is_err_and r c.from_residual.ensures.1 in
+    let ne = not_done c.in_err-misfit.field-0.0 in
+    let q = store_misfit a.levels.now a.weights.now a.m a.symbol refl c.in_err-misfit.ensures ne in
+    rw (p.1, p.2) (record { answer = q.0; levels_left = q.1.0; stored = tt; spent = q.1.1.1 })
 
--- value
-pub returns-then-found-eq-VALUE : goal.returns-then-found-eq-VALUE
-returns-then-found-eq-VALUE c =
-    let a = c.args in
-    let past = found_value a.levels.now a.weights.now a.m a.symbol c.uneven_row-found.ensures c.if-found-eq-VALUE.true in
-    let p = store_led a.levels.now a.weights.now a.m a.symbol past.0
-    (lead_refused _ _ _ c.no_pushes-then-found-eq-VALUE.ensures (lead_code _ _ _ (sym c.read_number-group.ensures ∙ c.if-group-ne0.false) (sym past.1) (λ z. omega arith)) (λ z. omega arith)) in
-    record { answer = p.0; levels_left = p.1.0; stored = p.1.1.0; spent = p.1.1.1 }
-
--- size or fit
-pub returns-then-found-ne0 : goal.returns-then-found-ne0
-returns-then-found-ne0 c =
-    let a = c.args in
-    let ne = c.if-found-ne0.true in
-    let p = store_misfit a.levels.now a.weights.now a.m a.symbol c.no_pushes-then-found-ne0.ensures (found_misfit a.levels.now a.weights.now a.m a.symbol c.uneven_row-found.ensures c.if-found-eq-VALUE.false ne) ne in
-    record { answer = p.0; levels_left = p.1.0; stored = p.1.1.0; spent = p.1.1.1 }
-
-pub store_prefix-requires : goal.store_prefix-requires
-store_prefix-requires c =
-    let a = c.args in
-    let v = found_stored a.levels.now a.weights.now a.m a.symbol c.uneven_row-found.ensures c.if-found-ne0.false in
-    record { few = v.few; many = v.many; long = v.long; permutation = v.permutation; short = omega (arith, v.few, v.short) }
+pub store_found-requires : goal.store_found-requires
+store_found-requires c = let a = c.args in found_row a.levels.now a.weights.now a.m a.symbol c.uneven_row.result c.uneven_row.ensures
 
 pub returns : goal.returns
 returns c =
     let a = c.args in
-    let p = found_done a.levels.now a.weights.now a.m a.symbol c.uneven_row-found.ensures c.if-found-ne0.false (c.store_prefix.ensures.answer, (c.store_prefix.ensures.levels_left, c.store_prefix.ensures.led)) in
-    record { answer = p.0; levels_left = p.1.0; stored = p.1.1.0; spent = p.1.1.1 }
+    let L = a.levels.now in
+    let ws = a.weights.now in
+    let q = uneven_on L ws a.symbol in
+    let found = c.uneven_row.result in
+    let is = found_as L ws a.m a.symbol found c.uneven_row.ensures in
+    let e = c.store_found.ensures in
+    let r = c.store_found.result in
+    let left = c.store_found.new.levels in
+    let fits : misfit (length L) (length ws) a.m ≡ 0 = sym (goal.at.returns c).In_ok-misfit.in_ok-misfit.ensures in
+    let led : Led (number_in found) L q (as_pushes r) left = (e.answer q is, (e.levels_left q is, done_if (LedBy q L left) r (e.led q is))) in
+    let p = store_led L ws a.m a.symbol fits (rw (found_number L ws a.m a.symbol fits found c.uneven_row.ensures) at led) in
+    record { answer = p.0; levels_left = p.1.0; stored = if_done (UnevenStored L ws a.m a.symbol left) r p.1.1.0; spent = p.1.1.1 }

@@ -1,19 +1,19 @@
 -- `work::acting::value_of` meets its contract: the levels have a permutation, which is read and valued. Assumes nothing.
-use mathlib.Core.Path.{◌≡◌}
-use native.Mathlib.Omega.{arith}
-use borrow.Author.Rules.{rules}
-use lib.ListN.{length}
-use Rattle.work.proofs.Working.{group_size, group_few}
-use Rattle.work.proofs.GroupValues.{read_value}
+use mathlib.Core.Path.{ap}
+use Rattle.ranking.specs.declared.answers.Valued.{Valued}
+use Rattle.permutation.proofs.Refusals.{given_ok}
+use Rattle.work.proofs.GroupValues.{read_done, read_valued, read_value}
 use Rattle.work.proofs.acting.value_of.Goals as goal
 
-pub slice_bounds-levels-end : goal.slice_bounds-levels-end
-slice_bounds-levels-end c =
-    let long : length c.args.group.levels ≡ 20 = search rules in
-    omega (arith, group_few c.requires)
+pub unwrap-permutation-requires : goal.unwrap-permutation-requires
+unwrap-permutation-requires c = read_done _ _ c.requires.readable c.read.ensures
 
-pub slice_bounds-read-end : goal.slice_bounds-read-end
-slice_bounds-read-end c = group_size c.requires
+pub unwrap-requires : goal.unwrap-requires
+unwrap-requires c =
+    let read = rw c.unwrap-permutation.ensures at c.read.ensures in
+    given_ok _ (ap (λ (a : Valued). a.number) (read_valued _ _ c.requires.readable read c.value.ensures))
 
 pub returns : goal.returns
-returns c = read_value _ _ c.requires.readable c.read.ensures c.value.ensures
+returns c =
+    let read = rw c.unwrap-permutation.ensures at c.read.ensures in
+    read_value _ _ c.requires.readable read (rw c.unwrap.ensures at c.value.ensures)

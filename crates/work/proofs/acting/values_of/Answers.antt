@@ -11,20 +11,19 @@ use Rattle.work.proofs.acting.values_of.Goals as goal
 use Rattle.work.proofs.acting.values_of.Goals.{Start}
 
 -- each group has a zero beside it
-zeros_enough : (c : Start) → c.args.groups.count ≤ length c.args.zeros
+zeros_enough : (c : Start) → c.args.groups.now.count ≤ length c.args.zeros.now
 zeros_enough c = let few = c.requires.few in search rules
 
 pub loop-g-init : goal.loop-g-init
-loop-g-init c = row_none 64 0 (beside_count value_of c.requires c.args.zeros (zeros_enough c)) c.requires.few
+loop-g-init c = row_none 64 0 (beside_count value_of c.requires c.args.zeros.now (zeros_enough c)) c.requires.few
 
 pub value_of-requires : goal.value_of-requires
-value_of-requires c =
-    group_at_held c.requires _ c.loop-g-test.true _
+value_of-requires c = group_at_held c.requires _ c.loop-g-test.true _
 
 pub loop-g-preserved : goal.loop-g-preserved
 loop-g-preserved c =
     filled_more c.loop-g.invariant c.loop-g-test.true 0
-    (c.value_of.ensures ∙ sym (beside_at value_of c.requires c.args.zeros (zeros_enough (goal.at.loop-g-preserved c).Start) c.loop-g.g c.loop-g-test.true _ _ 0))
+    (c.value_of.ensures ∙ sym (beside_at value_of c.requires c.args.zeros.now (zeros_enough (goal.at.loop-g-preserved c).Start) c.loop-g.g c.loop-g-test.true _ _ 0))
 
 pub returns : goal.returns
 returns c = row_all 64 0 c.loop-g.invariant c.loop-g-test.false

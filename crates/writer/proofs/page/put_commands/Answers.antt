@@ -1,114 +1,89 @@
--- `writer::page::put_commands` meets its contract: the commands up to i had no fault, and were put. Assumes nothing.
-use mathlib.Core.Path.{◌≡◌, ◌∙◌}
+-- `writer::page::put_commands` meets its contract: the commands up to here had no fault, and were put. Assumes nothing.
+use mathlib.Core.Path.{◌≡◌, refl, ◌∙◌}
 use mathlib.Core.List.{[]}
-use Prim.Native.Nat.{◌≤◌, ◌<◌}
+use Prim.Native.Nat.{◌≤◌}
 use native.Mathlib.Omega.{arith}
-use lib.ListN.{length, take, get_or}
-use lib.Seq.{get_or-take}
+use lib.ListN.{length, take}
+use Rattle.std.proofs.lemmas.Result.{err_from_is_err_and}
 use Rattle.theory.proofs.Padding.{get_or_any}
+use Rattle.permutation.proofs.Refusals.{not_done}
 use Rattle.sheet.specs.Held.{no_group}
 use Rattle.sheet.specs.Typed.{SheetTyped}
-use Rattle.sheet.specs.declared.held.Action.TheVariants.{Count}
 use Rattle.sheet.specs.declared.held.Group.{Group}
-use Rattle.sheet.specs.declared.held.Entry.{Entry}
-use Rattle.sheet.specs.declared.held.Sheet.{Sheet}
 use Rattle.sheet.proofs.Typed.{sheet_typed, entries_there}
 use Rattle.sheet.proofs.Putting.{puts_then}
-use Rattle.encoding.specs.SheetBytes.{entry_bytes, commands_bytes}
+use Rattle.encoding.specs.SheetBytes.{commands_bytes}
 use Rattle.encoding.specs.Faults.{first, entry_number, commands_number}
-use Rattle.encoding.specs.Lays.{Lays}
 use Rattle.encoding.proofs.Pieces.{number_end}
 use Rattle.encoding.proofs.ByTests.{commands_many, commands_first, entry_stray}
 use Rattle.encoding.proofs.Lays.{lays_refused, lays_put, lays_named}
 use Rattle.encoding.proofs.PartsPut.{parts_none, parts_stop, parts_next, parts_clear, parts_all}
 use Rattle.writer.proofs.page.put_commands.Goals as goal
-use Rattle.writer.proofs.page.put_commands.Goals.{After-put_command-laid, At-loop-i}
+use Rattle.writer.proofs.page.put_commands.Goals.{At-loop-entry}
 
-abbrev held : (c : At-loop-i) → Sheet
-held c = c.args.sheet
+typed : (c : At-loop-entry) → SheetTyped c.args.sheet
+typed c = sheet_typed c.args.sheet _ c.well_formed.1.1.0
 
-typed : (c : At-loop-i) → SheetTyped (held c)
-typed c = sheet_typed (held c) _ c.well_formed.1.1.0
-
-few : (c : At-loop-i) → (held c).count ≤ 1000
-few c = c.if-count-gt1000.false
-
-first_is : (c : At-loop-i) → first (entry_number (held c).groups) (take (held c).count (held c).entries) ≡ commands_number (held c)
-first_is c = commands_first _ (few c)
+first_is : (c : At-loop-entry) → first (entry_number c.args.sheet.groups) (take c.args.sheet.count c.args.sheet.entries) ≡ commands_number c.args.sheet
+first_is c = commands_first _ c.if-sheet-gt1000.false
 
 -- as many commands as are counted are there
-all_there : (c : At-loop-i) → length (take (held c).count (held c).entries) ≡ (held c).count
-all_there c = entries_there (held c) (typed c) (few c)
+all_there : (c : At-loop-entry) → length (take c.args.sheet.count c.args.sheet.entries) ≡ c.args.sheet.count
+all_there c = entries_there c.args.sheet (typed c) c.if-sheet-gt1000.false
 
--- what stands for an element past the end
-abbrev group_past : Group
-group_past = record { n = 0; levels = [] }
+pub returns-then-sheet-gt1000 : goal.returns-then-sheet-gt1000
+returns-then-sheet-gt1000 c = lays_refused refl (commands_many _ c.if-sheet-gt1000.true) (λ z. omega arith)
 
-abbrev none : Entry
-none = record { command = record { group = 0; action = Count 0 }; target = record { n = 0; cells = [] } }
+pub loop-entry-init : goal.loop-entry-init
+loop-entry-init c = parts_none _ _ _ _ _ _
 
--- what was put of command i
-laid_now : (c : After-put_command-laid)
-    → let e = get_or (take (held (goal.at.After-put_command-laid c).At-loop-i).count (held (goal.at.After-put_command-laid c).At-loop-i).entries) c.loop-i.i none in
-    Lays (entry_number (held (goal.at.After-put_command-laid c).At-loop-i).groups e) 22 c.loop-i.out c.loop-i.at c.put_command-laid.new.out c.put_command-laid.result (entry_bytes e)
-laid_now c =
-    let h = held (goal.at.After-put_command-laid c).At-loop-i in
-    let e = get_or h.entries c.loop-i.i none in
-    let below : c.wide-g.result < h.groups.count = omega (arith, c.if-total-g.false) in
-    let room = (typed (goal.at.After-put_command-laid c).At-loop-i).groups_long in
-    rw (get_or-take h.count h.entries c.loop-i.i none c.loop-i-test.true)
-    (lays_named h.groups e c.wide-g.result group_past c.wide-g.ensures below (omega (arith, c.requires.1.0)) c.put_command-laid.ensures)
+pub returns-then-sheet-g : goal.returns-then-sheet-g
+returns-then-sheet-g c =
+    let past = c.if-sheet-g.true in
+    let beyond = entry_stray c.args.sheet.groups _ (rw c.from-g.ensures at past) in
+    let stop = parts_stop c.loop-entry.invariant c.loop-entry-test.true _ beyond (λ z. omega arith) in
+    lays_refused refl (stop ∙ first_is (goal.at.returns-then-sheet-g c).At-loop-entry) (λ z. omega arith)
 
-pub returns-then-count-gt1000 : goal.returns-then-count-gt1000
-returns-then-count-gt1000 c = lays_refused c.refuse.ensures (commands_many _ c.if-count-gt1000.true) (λ z. omega arith)
+-- what stands for a group past the end
+abbrev none : Group
+none = record { n = 0; levels = [] }
 
-pub loop-i-init : goal.loop-i-init
-loop-i-init c = parts_none _ _ _ _ _ _
-
-pub shape_of-out-then-total-g : goal.shape_of-out-then-total-g
-shape_of-out-then-total-g c =
-    c.loop-i.invariant.row.put.long ∙ c.put_little-at.ensures.long
-
-pub returns-then-total-g : goal.returns-then-total-g
-returns-then-total-g c =
-    let h = held (goal.at.returns-then-total-g c).At-loop-i in
-    let beyond : h.groups.count ≤ (get_or h.entries c.loop-i.i none).command.group = omega (arith, c.wide-g.ensures, c.if-total-g.true) in
-    let stray : 8 ≡ entry_number h.groups (get_or (take h.count h.entries) c.loop-i.i none) =
-    rw (get_or-take h.count h.entries c.loop-i.i none c.loop-i-test.true) (entry_stray _ _ beyond) in
-    let stop = parts_stop c.loop-i.invariant (omega (arith, all_there (goal.at.returns-then-total-g c).At-loop-i, c.loop-i-test.true)) none stray (λ z. omega arith) in
-    lays_refused c.refuse-then-total-g.ensures (stop ∙ first_is (goal.at.returns-then-total-g c).At-loop-i) (λ z. omega arith)
-
-pub put_command-laid-requires : goal.put_command-laid-requires
-put_command-laid-requires c =
+pub put_command-requires : goal.put_command-requires
+put_command-requires c =
     let count = c.put_little-at.ensures in
-    let row = c.loop-i.invariant.row in
+    let row = c.loop-entry.invariant.row in
     let small = c.requires.1 in
-    let any = get_or_any (held (goal.at.put_command-laid-requires c).At-loop-i).groups.list c.wide-g.result group_past no_group (omega (arith, small.0, c.if-total-g.false, (typed (goal.at.put_command-laid-requires c).At-loop-i).groups_long)) in (
-      omega (arith, c.requires.0, few (goal.at.put_command-laid-requires c).At-loop-i, c.loop-i-test.true, count.long, number_end 2 _ count, row.put.long, row.short),
-      rw any (small.1 _ (omega (arith, c.if-total-g.false))),
+    let at = (goal.at.put_command-requires c).At-loop-entry in
+    let any = get_or_any c.args.sheet.groups.list c.from-g.result none no_group (omega (arith, small.0, c.if-sheet-g.false, (typed at).groups_long)) in (
+      omega (arith, c.requires.0, all_there at, at.if-sheet-gt1000.false, c.loop-entry-test.true, count.long, number_end 2 _ count, row.put.long, row.short),
+      rw any (small.1 _ c.if-sheet-g.false),
     )
 
-pub shape_of-out-then-laid-ne0 : goal.shape_of-out-then-laid-ne0
-shape_of-out-then-laid-ne0 c =
-    c.put_command-laid.auto.out ∙ c.loop-i.invariant.row.put.long ∙ c.put_little-at.ensures.long
+-- the list of groups has room for all that are counted
+room : (c : At-loop-entry) → c.args.sheet.groups.count ≤ length c.args.sheet.groups.list
+room c = omega (arith, c.requires.1.0, (typed c).groups_long)
 
-pub returns-then-laid-ne0 : goal.returns-then-laid-ne0
-returns-then-laid-ne0 c =
-    let stop = parts_stop c.loop-i.invariant (omega (arith, all_there (goal.at.returns-then-laid-ne0 c).At-loop-i, c.loop-i-test.true)) none (laid_now (goal.at.returns-then-laid-ne0 c).After-put_command-laid).numbered c.if-laid-ne0.true in
-    lays_refused c.refuse-then-laid-ne0.ensures (stop ∙ first_is (goal.at.returns-then-laid-ne0 c).At-loop-i) c.if-laid-ne0.true
+pub returns-in_err-at : goal.returns-in_err-at
+returns-in_err-at c =
+    let at = (goal.at.returns-in_err-at c).At-loop-entry in
+    let p = err_from_is_err_and c.from_residual.result c.from_residual.ensures.1 in
+    let why = not_done c.in_err-at.field-0.0 in
+    let laid = lays_named c.args.sheet.groups _ c.from-g.result none c.from-g.ensures c.if-sheet-g.false (room at) c.in_err-at.ensures in
+    let stop = parts_stop c.loop-entry.invariant c.loop-entry-test.true _ laid.numbered why in
+    rw (p.1, p.2) (lays_refused refl (stop ∙ first_is at) why)
 
-pub loop-i-preserved : goal.loop-i-preserved
-loop-i-preserved c =
-    parts_next c.loop-i.invariant (omega (arith, all_there (goal.at.loop-i-preserved c).At-loop-i, c.loop-i-test.true)) none (laid_now (goal.at.loop-i-preserved c).After-put_command-laid) c.if-laid-ne0.false
-
-pub shape_of-out : goal.shape_of-out
-shape_of-out c = c.loop-i.invariant.row.put.long ∙ c.put_little-at.ensures.long
+pub loop-entry-preserved : goal.loop-entry-preserved
+loop-entry-preserved c =
+    let at = (goal.at.loop-entry-preserved c).At-loop-entry in
+    let laid = lays_named c.args.sheet.groups _ c.from-g.result none c.from-g.ensures c.if-sheet-g.false (room at) c.in_ok-at.ensures in
+    parts_next c.loop-entry.invariant c.loop-entry-test.true _ laid refl
 
 pub returns : goal.returns
 unfolding commands_bytes
 returns c =
     let count = c.put_little-at.ensures in
-    let inv = c.loop-i.invariant in
-    let done : length (take (held (goal.at.returns c).At-loop-i).count (held (goal.at.returns c).At-loop-i).entries) ≤ c.loop-i.i = omega (arith, c.loop-i-test.false, all_there (goal.at.returns c).At-loop-i) in
-    lays_put c.done.ensures (parts_clear inv done ∙ first_is (goal.at.returns c).At-loop-i) (puts_then count (parts_all inv done))
-    (omega (arith, number_end 2 _ count, inv.row.short, inv.row.few, all_there (goal.at.returns c).At-loop-i, few (goal.at.returns c).At-loop-i))
+    let inv = c.loop-entry.invariant in
+    let done = c.loop-entry-test.false in
+    let at = (goal.at.returns c).At-loop-entry in
+    lays_put refl (parts_clear inv done ∙ first_is at) (puts_then count (parts_all inv done))
+    (omega (arith, number_end 2 _ count, inv.row.short, inv.row.few, all_there at, at.if-sheet-gt1000.false))

@@ -1,58 +1,53 @@
 -- `writer::page::put_sheet` meets its contract: the groups, the commands, and then the zeros. Assumes nothing.
-use mathlib.Core.Path.{sym, ◌∙◌}
+use mathlib.Core.Path.{refl, sym}
 use native.Mathlib.Omega.{arith}
+use Rattle.std.proofs.lemmas.Result.{err_from_is_err_and}
 use Rattle.theory.proofs.Refusal.{or_else_refused}
+use Rattle.permutation.proofs.Refusals.{not_done}
 use Rattle.encoding.specs.SheetBytes.{sheet_bytes}
 use Rattle.encoding.specs.Faults.{groups_number, commands_number, sheet_number}
 use Rattle.sheet.proofs.Typed.{sheet_typed}
 use Rattle.encoding.proofs.Accepted.{GroupsTaken, groups_taken, group_at_lem}
 use Rattle.encoding.proofs.Lays.{lays_refused, lays_then, lays_more}
 use Rattle.writer.proofs.page.put_sheet.Goals as goal
-use Rattle.writer.proofs.page.put_sheet.Goals.{Else-laid-ne0}
+use Rattle.writer.proofs.page.put_sheet.Goals.{In_ok-end}
 
 -- groups that were put without fault
-taken_now : (c : Else-laid-ne0) → GroupsTaken c.args.sheet.groups
-taken_now c = groups_taken _ (sym c.put_groups-laid.ensures.numbered ∙ c.if-laid-ne0.false)
+taken_now : (c : In_ok-end) → GroupsTaken c.args.sheet.groups
+taken_now c = groups_taken _ (sym c.in_ok-end.ensures.numbered)
 
-pub returns-then-laid-ne0 : goal.returns-then-laid-ne0
+pub returns-in_err-end : goal.returns-in_err-end
 unfolding sheet_number
-returns-then-laid-ne0 c =
-    let laid = c.put_groups-laid.ensures in
-    lays_refused c.refuse.ensures (or_else_refused (groups_number _) (commands_number _) laid.numbered c.if-laid-ne0.true) c.if-laid-ne0.true
+returns-in_err-end c =
+    let p = err_from_is_err_and c.from_residual.result c.from_residual.ensures.1 in
+    let why = not_done c.in_err-end.field-0.0 in
+    rw (p.1, p.2) (lays_refused refl (or_else_refused (groups_number _) (commands_number _) c.in_err-end.ensures.numbered why) why)
 
-pub put_commands-rest-requires : goal.put_commands-rest-requires
-put_commands-rest-requires c =
-    let none = c.if-laid-ne0.false in
-    let room = (c.put_groups-laid.ensures.put none).long in
+pub put_commands-requires : goal.put_commands-requires
+put_commands-requires c =
+    let groups = c.in_ok-end.ensures in
+    let room = (groups.put refl).long in
     let list = (sheet_typed c.args.sheet _ c.well_formed.1.0).groups_long in
-    let t = taken_now (goal.at.put_commands-rest-requires c).Else-laid-ne0 in
-    (omega (arith, c.put_groups-laid.ensures.short none), (t.few, λ g h. (group_at_lem _ list t g h).few))
+    let t = taken_now (goal.at.put_commands-requires c).In_ok-end in
+    (omega (arith, groups.short refl), (t.few, λ g h. (group_at_lem _ list t g h).few))
 
-pub returns-then-rest-ne0 : goal.returns-then-rest-ne0
+pub returns-in_err-rest : goal.returns-in_err-rest
 unfolding sheet_number
-returns-then-rest-ne0 c =
-    let groups = c.put_groups-laid.ensures in
-    let laid = c.put_commands-rest.ensures in
-    lays_refused c.refuse-then-rest-ne0.ensures (lays_then groups c.if-laid-ne0.false laid).numbered c.if-rest-ne0.true
+returns-in_err-rest c =
+    let p = err_from_is_err_and c.from_residual-in_err-rest.result c.from_residual-in_err-rest.ensures.1 in
+    let why = not_done c.in_err-rest.field-0.0 in
+    rw (p.1, p.2) (lays_refused refl (lays_then c.in_ok-end.ensures refl c.in_err-rest.ensures).numbered why)
 
 pub put_zeros-requires : goal.put_zeros-requires
 put_zeros-requires c =
-    let laid = c.put_commands-rest.ensures in
-    let groups = c.put_groups-laid.ensures in
-    let near = groups.short c.if-laid-ne0.false in
-    let long = (groups.put c.if-laid-ne0.false).long in (
-      omega (
-        arith,
-        laid.short c.if-rest-ne0.false,
-        (laid.put c.if-rest-ne0.false).long,
-        c.requires,
-      ),
-      (taken_now (goal.at.put_zeros-requires c).Else-laid-ne0).few,
+    let groups = c.in_ok-end.ensures in
+    let rest = c.in_ok-rest.ensures in (
+      omega (arith, groups.short refl, (groups.put refl).long, rest.short refl, (rest.put refl).long, c.requires),
+      (taken_now (goal.at.put_zeros-requires c).In_ok-end).few,
     )
 
 pub returns : goal.returns
 unfolding sheet_number sheet_bytes
 returns c =
-    let groups = c.put_groups-laid.ensures in
     let put = c.put_zeros.ensures in
-    lays_then groups c.if-laid-ne0.false (lays_more 65 c.put_commands-rest.ensures c.if-rest-ne0.false put.puts put.short c.done.ensures)
+    lays_then c.in_ok-end.ensures refl (lays_more 65 c.in_ok-rest.ensures refl put.puts put.short refl)

@@ -1,0 +1,5 @@
+// What the programs share.
+#![tactic(auto)]
+
+pub mod input; // input, read whole
+pub mod told; // what failed

@@ -1,0 +1,2 @@
+-- What stands in a row that is read.
+pub mod Rows

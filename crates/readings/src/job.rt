@@ -1,0 +1,70 @@
+// Which job a line asks for.
+#[derive(Clone, Copy)]
+pub enum Job {
+    Rank,
+    Digits,
+    Successor,
+    Push,
+    RunSteps,
+    Unrank,
+    Walk,
+    ValueOn,
+    Read,
+    PushLevel,
+    CountUp,
+    Store,
+    ReadSymbol,
+    RunLevels,
+    RunCalls,
+    Rewrite,
+    Symbols,
+    Prefix,
+    Write,
+    ReadBands,
+    ReadSymbolBands,
+    Reach,
+    ReachSum,
+    OfValue,
+    Rearrange,
+    PrefixUneven,
+    StoreUneven,
+    ReadUneven,
+}
+
+impl Job {
+    // The letters in which the names differ tell the job, so that another word with these letters names it too.
+    pub fn named_by(line: &[u8]) -> Option<Self> {
+        let job = match line {
+            [b'd', ..] => Job::Digits,
+            [b'u', ..] => Job::Unrank,
+            [b'c', ..] => Job::CountUp,
+            [b'v', ..] => Job::ValueOn,
+            [b'o', ..] => Job::OfValue,
+            [b'p', b'r', _, _, _, _, b'_', ..] => Job::PrefixUneven,
+            [b'p', b'r', ..] => Job::Prefix,
+            [b'p', _, _, _, b'_', ..] => Job::PushLevel,
+            [b'p', ..] => Job::Push,
+            [b'r', _, b'w', ..] => Job::Rewrite,
+            [b'r', b'a', ..] => Job::Rank,
+            [b'r', b'e', _, b'c', _, b'_', ..] => Job::ReachSum,
+            [b'r', b'e', _, b'c', ..] => Job::Reach,
+            [b'r', b'e', _, b'r', ..] => Job::Rearrange,
+            [b'r', b'e', _, _, b'_', b'b', ..] => Job::ReadBands,
+            [b'r', b'e', _, _, b'_', b'u', ..] => Job::ReadUneven,
+            [b'r', b'e', _, _, b'_', _, _, _, _, _, _, b'_', ..] => Job::ReadSymbolBands,
+            [b'r', b'e', _, _, b'_', ..] => Job::ReadSymbol,
+            [b'r', b'e', ..] => Job::Read,
+            [b'r', _, _, _, b's', ..] => Job::RunSteps,
+            [b'r', _, _, _, b'l', ..] => Job::RunLevels,
+            [b'r', ..] => Job::RunCalls,
+            [b's', b't', _, _, _, b'_', ..] => Job::StoreUneven,
+            [b's', b't', ..] => Job::Store,
+            [b's', b'y', ..] => Job::Symbols,
+            [b's', ..] => Job::Successor,
+            [b'w', b'r', ..] => Job::Write,
+            [b'w', ..] => Job::Walk,
+            _ => return None,
+        };
+        Some(job)
+    }
+}

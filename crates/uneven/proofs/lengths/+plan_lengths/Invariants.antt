@@ -1,7 +1,0 @@
--- `uneven::lengths::plan_lengths` meets its contract. Its measure is h and the symbols left. Assumes nothing.
-use Prim.Native.Nat.{◌+◌, ◌-◌}
-use lib.ListN.{length}
-use Rattle.uneven.proofs.lengths.+plan_lengths.Given as goal
-
-abbrev pub decreases-plan_lengths : goal.decreases-plan_lengths
-decreases-plan_lengths l = l.h + (length l.heavy.now - l.k)
