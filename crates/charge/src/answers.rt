@@ -4,7 +4,7 @@ ghost use Rattle.charge.specs.Answers.{as_pushes};
 
 use permutation::reasons::{Refusal, number_in};
 
-// How many pushes were done, and what they spent.
+// How many pushes were done, and what they spent. That the levels grew by it (`Spends`) is a clause of each job, since a type knows no lent levels.
 #[derive(Clone, Copy, Debug, PartialEq, Eq)]
 pub struct Spent {
     pub pushes: u32,

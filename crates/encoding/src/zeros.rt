@@ -8,7 +8,7 @@ ghost use Rattle.encoding.specs.SheetBytes.{number_on_new, numbers_on_new, secti
 use super::little::put_little;
 use ranking::zero::Zero;
 
-// The number of a group on the new zero, and nothing of one on the old.
+// The number of a group on the new zero, and nothing of one on the old: one arm a zero, since a closure for each would be a table of functions.
 fn put_number(out: &mut [u8], at: usize, g: usize, zero: Zero) -> usize
     requires { at + 1 ≤ length out.old }
     ensures { Puts out.old at out.new result (flat_map (bytes_of 1) (number_on_new g zero)) }

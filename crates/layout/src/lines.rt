@@ -34,6 +34,7 @@ fn put_command(text: &mut [u8], at: usize, place: usize, answer: Pushes) -> usiz
     put_byte(text, d, b'\n')
 }
 
+// In decimal, where that of `encoding` puts bytes.
 fn put_levels(text: &mut [u8], at: usize, levels: &[u16]) -> usize
     requires { at + 6 * length levels.now ≤ length text.old }
     ensures puts { Puts text.old at text.new result (meaning.fields levels.now) }

@@ -1,4 +1,5 @@
 // Permutations of a group's cells: push and successor. Each answer is proved equal to a meaning of `specs/Answers`, for every input.
+// A cast by `as` is proved to lose nothing, here and in the crates above: a `TryFrom` would bring a refusal that cannot occur, and a `usize` has no `From` into a `u64`.
 #![tactic(auto)]
 
 pub mod answers; // the record and the answers

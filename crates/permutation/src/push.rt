@@ -30,10 +30,12 @@ pub fn push(permutation: Permutation, place: usize) -> Result<Permutation, Refus
     ensures { as_permuted result ≡ push_answer permutation place }
 {
     check(permutation)?;
-    let n = permutation.n;
-    if !(2..=n).contains(&place) {
+    if !(2..=permutation.n).contains(&place) {
         return Err(Refusal::Value);
     }
     let cells = pushed_row(permutation.cells, place);
-    Ok(Permutation { n, cells })
+    Ok(Permutation {
+        cells,
+        ..permutation
+    })
 }

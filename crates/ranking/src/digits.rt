@@ -1,4 +1,5 @@
 // The digits, by spots. The circle of the cells 1 to m is read downward and upward by turns as m falls, and no remaining permutation is copied.
+// The gap s is one of 0 to m, and both change at each cell: each function asks for `s ≤ m`, here and in `unrank`, since a type for a gap of m would be made anew, with its proof, at each.
 ghost use Rattle.std.specs.Prelude.{◌≡◌, true, false, ◌+◌, ◌≤◌, ◌<◌};
 ghost use Rattle.theory.specs.Rank as meaning;
 ghost use Rattle.ranking.specs.Answers.{as_digits, digits_answer};
@@ -68,8 +69,7 @@ pub fn digits(permutation: Permutation) -> Result<[u8; 20], Refusal>
 {
     let mut spots = [0; 21];
     check_into(permutation, &mut spots)?;
-    let n = permutation.n;
     let mut row = [0; 20];
-    read_down(&spots, n, 0, n, &mut row);
+    read_down(&spots, permutation.n, 0, permutation.n, &mut row);
     Ok(row)
 }

@@ -29,6 +29,7 @@ static FACTORIALS: [u64; 21] = [
 ];
 
 // The table, whole: a clause can speak of what a function gives, and of no static, so that each table has such a function.
+#[tactic(auto, unfolding(crate::specs::Factorials::factorial_table))]
 pub fn factorial_table() -> &'static [u64; 21]
     ensures { result.now ≡ factorial_table }
 {
@@ -50,7 +51,8 @@ pub fn small_factorial(n: usize) -> u64
     factorial_table()[n]
 }
 
-// n!/(n-p)!. It fits 64 bits as n! does. For other crates: it asks for at most twenty cells, and p at most n.
+// n!/(n-p)!. It fits 64 bits as n! does. For other crates: it asks for at most twenty cells, and p at most n. The two are no type: each job finds p anew for its n, and
+// would make the pair at each call.
 pub fn falling_factorial(n: usize, p: usize) -> u64
     requires { (n ≤ 20) × (p ≤ n) }
     ensures { result ≡ meaning.falling n p }

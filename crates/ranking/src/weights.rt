@@ -211,6 +211,7 @@ static WEIGHTS: [[u64; 21]; 20] = [
 ];
 
 // The table, whole, for its rule.
+#[tactic(auto, unfolding(crate::specs::Weights::weight_row, crate::specs::Weights::weight_table))]
 fn weight_table() -> &'static [[u64; 21]; 20]
     ensures { result.now ≡ weight_table }
 {

@@ -53,7 +53,7 @@ static NEW_ZERO_RANKS: [u64; 21] = [
     1111640041132788938,
 ];
 
-// The rank of the zero of n cells. For the jobs beside it: it asks for at most twenty cells.
+// The rank of the zero of n cells, one arm a zero. For the jobs beside it: it asks for at most twenty cells.
 pub fn zero_rank(n: usize, zero: Zero) -> u64
     requires { n ≤ 20 }
     ensures { result ≡ meaning.rank n (zero_permutation zero n) }

@@ -21,7 +21,7 @@ use ranking::digits::digits;
 use ranking::rank::rank;
 use std::{fmt, io};
 
-// What the job gives. The reply ends with an error where the text is full, or where the line lacks what the job is given.
+// What the job gives, one arm a job, since each has an input of its own form. The reply ends with an error where the text is full, or where the line lacks what the job is given.
 fn reply(job: Job, numbers: &Numbers, line: &[u8], text: &mut Text) -> fmt::Result {
     let mut given = numbers.given();
     match job {

@@ -62,8 +62,7 @@ pub fn rewrite(levels: &mut [u16], target: Permutation, list: &mut [u8]) -> Resu
     judge(levels, target, list.len())?;
     let mut cells = [0; 20];
     sort_cells(levels, &mut cells);
-    let n = target.n;
-    let r = rewrite_count(&cells[..n], &target.cells[..n]);
+    let r = rewrite_count(&cells[..target.n], &target.cells[..target.n]);
     let spent = raise(levels, &target.cells, r)?;
     list_pushes(list, &target.cells[..r]);
     Ok(spent)

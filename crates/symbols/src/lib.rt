@@ -1,4 +1,5 @@
 // Store a symbol, read one. Each answer, and the levels at exit, are proved equal to a meaning of `specs/Answers`, for every input.
+// The public functions take what C lends, one argument each.
 #![tactic(auto)]
 
 pub mod answers; // what reading a symbol and the prefix of a symbol answer

@@ -41,7 +41,7 @@ fn choose(cells: &mut [u8; 20], n: usize, p: usize, count: u64, s: u64)
 }
 
 // The row of prefix number s of length p: the prefix, the other names ascending behind it, and zeros past them. For other crates too: it asks for at most twenty
-// cells, p at most n, and s below `count`, which is how many prefixes of length p there are.
+// cells, p at most n (as `falling_factorial` does), and s below `count`, which is how many prefixes of length p there are.
 pub fn numbered_row(n: usize, p: usize, count: u64, s: u64) -> [u8; 20]
     requires { (n ≤ 20) × (p ≤ n) × (count ≡ factorials.falling n p) × (s < count) }
     ensures { result ≡ row (meaning.prefix_at n p s ++ without (meaning.prefix_at n p s) (names n)) }

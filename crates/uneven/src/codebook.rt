@@ -1,4 +1,5 @@
-// The code of weighted symbols: worked out, and asked for a prefix or for the index that a permutation has.
+// The code of weighted symbols: worked out, and asked for a prefix or for the index that a permutation has. How many cells and symbols there are, the group and the
+// lent weights tell: the methods ask for at most 8 and 64.
 ghost use Rattle.std.specs.Prelude.{◌≡◌, ℕ, ◌≤◌, ◌<◌, length, get_or, take, IfSome, unwrap_or};
 ghost use Rattle.prefixcodes.specs.Leaves.{leaves};
 ghost use Rattle.uneven.specs.Codebook.{HasCode, HoldsCode, IndexLed};

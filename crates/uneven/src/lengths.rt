@@ -1,4 +1,4 @@
-// The best lengths of the prefixes of weighted symbols.
+// The best lengths of the prefixes of weighted symbols. Each function over lent weights asks for at most 64, which its rows have places for.
 ghost use Rattle.std.specs.Prelude.{◌≡◌, ◌*◌, ◌≤◌, length};
 ghost use Rattle.uneven.specs.Codebook.{HasTails, PlanAsked, PlanGiven};
 

@@ -1,5 +1,6 @@
 // Symbols used unevenly (document 02, request 12): the prefix of a weighted symbol, a symbol stored, and one read. Each answer, and the levels at exit, are
 // proved equal to a meaning of `specs/Answers`, for every input.
+// The public functions take what C lends, one argument each.
 #![tactic(auto)]
 
 mod by_weight; // symbols from heavy to light

@@ -22,10 +22,10 @@ fn symbol_of(weights: &[u16], permutation: Permutation) -> Result<u64, Refusal>
     requires { HasCode permutation.n weights.now × (record_number permutation ≡ 0) }
     ensures { as_symbol result ≡ uneven_read permutation.n weights.now (list_of permutation) }
 {
-    let n = permutation.n;
+    let Permutation { n, cells } = permutation;
     // it is a permutation: only its spots are wanted
     let spots = check(permutation)?;
-    let number = prefix_number(&permutation.cells, &spots, n, n);
+    let number = prefix_number(&cells, &spots, n, n);
     let book = Codebook::new(n, weights);
     let Some(k) = book.leading_index(n, weights.len(), number) else {
         return Err(Refusal::Idle);

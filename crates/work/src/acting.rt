@@ -20,7 +20,7 @@ use rewriting::rewrite::rewrite;
 use sheet::held::{Action, Group, Groups, Sheet};
 use symbols::store::store;
 
-// The levels and the answer; of the zero tells `zero_left`.
+// The levels and the answer; of the zero tells `zero_left`. One arm a kind, in both: a closure for each would be a table of functions.
 fn act(levels: &mut [u16], action: Action, target: Permutation) -> Result<Spent, Refusal>
     ensures answer { as_pushes result ≡ meaning.job_answer action target levels.old }
     ensures levels_left { levels.new ≡ meaning.job_levels action target levels.old }
