@@ -12,9 +12,9 @@ LIBRARY = Path(__file__).resolve().parent.parent / "crates/turretmedlar/out/libt
 DIVIDES = {"tm_digits": False, "tm_rank": False, "tm_unrank": True}
 # Each function has a section, which is named after it.
 SECTION = re.compile(r"^Disassembly of section (?:\.text\.)?(.+):$", re.M)
-# A call into another section is left to the linker, under the name of the section or of the function; so is the place of a constant, which is left out. Nothing is
+# A call into another section is left to the linker, under the name of the section or of the function; so is the place of a constant or of a table, which is left out. Nothing is
 # called by pointer: Rattle has no pointers to functions.
-CALLED = re.compile(r" R_\w+\t(?!\.LCPI)(?:\.text\.)?(.+?)(?:[+-]0x[0-9a-f]+)?$", re.M)
+CALLED = re.compile(r" R_\w+\t(?!\.LCPI|\.rodata)(?:\.text\.)?(.+?)(?:[+-]0x[0-9a-f]+)?$", re.M)
 # Before its name an instruction may have prefixes.
 DIVISION = re.compile(r":\t(?:\w+ )*\w*div")
 
