@@ -1,5 +1,5 @@
 #!/usr/bin/env python3
-"""Checks that what README.md, docs/*.md and docs/map/*.md name exists; docs/landings/, docs/PORT.md and docs/DESIGN-PASS.md tell what was and are left out. What stands in back quotes must be one of
+"""Checks that what README.md, docs/*.md and docs/map/*.md name exists; docs/landings/, docs/PORT.md, docs/DESIGN-PASS.md and docs/LOOK-BACK.md tell what was and are left out. What stands in back quotes must be one of
 
 - a path, whole or its last parts: `docs/map/01.md`, `speed/run`; below `target/`, which is not kept, anything, and below the `out/` of a crate, which is not kept either, by the crate
 - `specs/F`, `proofs/F` of crates/theory; `crate: F` (its specs/), `crate: specs/F`, `crate: proofs/F`; after these `: name`, a definition or theorem of that file
@@ -17,7 +17,7 @@ from pathlib import Path
 
 ROOT = Path(__file__).resolve().parent.parent
 MAP = ROOT / "docs/map"
-WAS = {"PORT.md", "DESIGN-PASS.md"}
+WAS = {"PORT.md", "DESIGN-PASS.md", "LOOK-BACK.md"}
 DOCUMENTS = [ROOT / "README.md", *(path for path in sorted((ROOT / "docs").glob("*.md")) if path.name not in WAS), *sorted(MAP.glob("*.md"))]
 NOT_KEPT = {"target", "out", ".git", "__pycache__"}
 # What names nothing of this repository: words of Rattle, of its prover and its messages, of C and Rust, of the printed text, and placeholders.

@@ -1,10 +1,10 @@
 -- The test, from the bottom up: one turn of the way. Assumes nothing.
 use mathlib.Core.Path.{◌≡◌, sym, ◌∙◌}
 use mathlib.Core.Bool.{true, false}
-use mathlib.Core.List.{List, ◌∷◌, map}
+use mathlib.Core.List.{List, [], ◌∷◌, map}
 use Prim.Native.Nat.{ℕ, zero, suc, ◌-◌, ◌≤◌, ◌<◌, max}
 use native.Mathlib.Omega.{arith}
-use lib.ListN.{length, get_or, take, drop, length-drop}
+use lib.ListN.{length, get_or, take, drop, drop_of_length-le, length-drop}
 use lib.Seq.{drop-cons, get_or-take}
 use Rattle.theory.specs.Levels.{level, highest}
 use Rattle.theory.proofs.Cases.{by_test}
@@ -26,6 +26,11 @@ module _ {low cells : List ℕ} {p : ℕ} (t : PrefixRow low cells p) where
 
   short : p < length xs
   short = omega (arith, t.short, t.permutation.long)
+
+  pub found_none : {high : List ℕ} → Found low high xs p 0 (length low)
+  found_none =
+      let none : drop (length low) xs ≡ [] = drop_of_length-le xs {i = length low} (omega (arith, t.permutation.long)) in
+      record { within = omega arith; bound_is = rw none; above = λ j c h m. absurd (omega (arith, t.short)) }
 
   pub found_all : {high : List ℕ} {bound : ℕ} → Found low high xs p bound 0 → lead_test low high p xs ≡ true
   found_all {high} f = above_test low high p xs short (λ j c h m. f.above j c (omega arith) m)

@@ -2,7 +2,7 @@
 use mathlib.Core.Path.{◌≡◌, sym, ◌∙◌}
 use mathlib.Core.List.{List, ◌∷◌, [], ◌++◌, append_assoc, append-nil}
 use Prim.Native.Nat.{ℕ, suc, ◌+◌, ◌-◌, ◌/◌, ◌%◌, ◌≤◌, ◌<◌}
-use native.Mathlib.Nat.{sub_self}
+use native.Mathlib.Nat.{sub-zero, sub_self}
 use native.Mathlib.Numerals.{add-one}
 use native.Mathlib.Omega.{arith}
 use lib.ListN.{length, take, set}
@@ -13,6 +13,9 @@ use Rattle.sheet.specs.Bytes.{bytes_of}
 pub record Spelling (k x : ℕ) (part : List ℕ) (left i : ℕ) : Type 0 where
   pub few : i ≤ k
   pub whole : bytes_of k x ≡ take i part ++ bytes_of (k - i) left
+
+pub spelling_none : (k x : ℕ) (part : List ℕ) → Spelling k x part x 0
+spelling_none k x part = record { few = omega arith; whole = rw sub-zero }
 
 module _ {k x : ℕ} {part : List ℕ} {left i : ℕ} (h : Spelling k x part left i) where
   pub spelling_more : i < k → i < length part → Spelling k x (set part i (left % 256)) (left / 256) (i + 1)

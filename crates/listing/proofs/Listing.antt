@@ -1,5 +1,5 @@
 -- LentLists that are long enough, zeros as numbers, and what is answered for them. Assumes nothing.
-use mathlib.Core.Path.{◌≡◌, ◌∙◌}
+use mathlib.Core.Path.{◌≡◌, refl, ◌∙◌}
 use mathlib.Core.Bool.{Bool, true, false, ◌&&◌, and-eq-true_iff}
 use mathlib.Core.List.{List}
 use Prim.Native.Nat.{ℕ, ◌+◌, ◌*◌, ◌≤◌, ◌<◌}
@@ -46,6 +46,9 @@ listed_so sizes levels zeros kinds groups numbers names h =
 -- none of the first i is refused
 pub record ZerosJudged (xs : List ℕ) (i : ℕ) : Type 0 where
   pub left : first zero_number xs ≡ first zero_number (drop i xs)
+
+pub judged_none : (xs : List ℕ) → ZerosJudged xs 0
+judged_none xs = record { left = refl }
 
 module _ {xs : List ℕ} {i : ℕ} (v : ZerosJudged xs i) where
   module _ (more : i < length xs) where

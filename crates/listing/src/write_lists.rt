@@ -46,22 +46,6 @@ impl Lists<'_> {
         }
         judge_zeros(&self.zeros[..self.sizes.len()])
     }
-
-    fn held(&self) -> Sheet
-        requires { meaning.lists_number (meaning.lists self.now.sizes.now self.now.levels.now self.now.zeros.now self.now.kinds.now self.now.groups.now self.now.numbers.now self.now.names.now) ≡ 0 }
-        ensures { result ≡ meaning.held_in (meaning.lists self.now.sizes.now self.now.levels.now self.now.zeros.now self.now.kinds.now self.now.groups.now self.now.numbers.now self.now.names.now) }
-    {
-        let total = self.sizes.len();
-        Sheet {
-            groups: Groups {
-                count: total,
-                list: groups_in(self.sizes, self.levels),
-            },
-            zeros: zeros_in(self.zeros, total),
-            count: self.kinds.len(),
-            entries: entries_in(self.kinds, self.groups, self.numbers, self.names),
-        }
-    }
 }
 
 pub fn write_lists(
@@ -88,5 +72,18 @@ pub fn write_lists(
         names,
     };
     lists.judge()?;
-    write_sheet(lists.held(), out)
+    // The sheet is made here and not in a method: what that gave back would be blanked and copied once more.
+    let list = groups_in(sizes, levels);
+    let row = zeros_in(zeros, sizes.len());
+    let entries = entries_in(kinds, groups, numbers, names);
+    let sheet = Sheet {
+        groups: Groups {
+            count: sizes.len(),
+            list,
+        },
+        zeros: row,
+        count: kinds.len(),
+        entries,
+    };
+    write_sheet(sheet, out)
 }

@@ -1,12 +1,13 @@
 -- The tests of the job decide its number, one after another; past them both lists are arrangements, and its answer is made of what they give. Assumes nothing.
 use mathlib.Core.Path.{◌≡◌, sym, ◌∙◌}
-use mathlib.Core.Bool.{true, and-eq-true_iff, ◌&&◌}
+use mathlib.Core.Bool.{true, false, and-eq-true_iff, ◌&&◌}
 use mathlib.Core.List.{List}
 use Prim.Native.Nat.{ℕ, ◌*◌, ◌≤◌}
 use native.Mathlib.Omega.{arith}
-use borrow.Author.Tests.{eqb-true, leb-true}
+use borrow.Author.Tests.{eq-eqb, ne_eqb, eqb-true, leb-true}
 use lib.Dec.{eqb, leb}
 use lib.ListN.{length}
+use Rattle.theory.specs.Reasons.{size, fit}
 use Rattle.theory.proofs.Refusal.{refused, answered, given_done, given_refused, or_else_done, tested}
 use Rattle.multicell.specs.Arrangement.{IsArrangement, used_each, in_range}
 use Rattle.multicell.specs.Cost.{cost_of, raised_levels}
@@ -47,6 +48,30 @@ pub record Judged (q z : ℕ) (old new : List ℕ) (room : ℕ) : Type 0 where
   pub room_is : room ≡ q * z
 
 module _ (q z : ℕ) (old new : List ℕ) (room : ℕ) where
+  pub judge_size : in_range q z ≡ false → size ≡ rearrange_number q z old new room
+  unfolding rearrange_number
+  judge_size e = rw e
+
+  module _ (e : in_range q z ≡ true) where
+    pub judge_old : (length old ≡ q * z → ⊥) → fit ≡ rearrange_number q z old new room
+    unfolding rearrange_number
+    judge_old ne = rw (e, ne_eqb (length old) (q * z) ne)
+
+    module _ (o : length old ≡ q * z) where
+      pub judge_new : (length new ≡ q * z → ⊥) → fit ≡ rearrange_number q z old new room
+      unfolding rearrange_number
+      judge_new ne = rw (e, eq-eqb (length old) (q * z) o, ne_eqb (length new) (q * z) ne)
+
+      module _ (n : length new ≡ q * z) where
+        pub judge_room : (room ≡ q * z → ⊥) → fit ≡ rearrange_number q z old new room
+        unfolding rearrange_number
+        judge_room ne = rw (e, eq-eqb (length old) (q * z) o, eq-eqb (length new) (q * z) n, ne_eqb room (q * z) ne)
+
+        -- past these, the arrangements decide
+        pub judge_lists : room ≡ q * z → rearrange_muddle q z old new ≡ rearrange_number q z old new room
+        unfolding rearrange_number
+        judge_lists r = rw (e, eq-eqb (length old) (q * z) o, eq-eqb (length new) (q * z) n, eq-eqb room (q * z) r)
+
   pub judged : rearrange_number q z old new room ≡ 0 → Judged q z old new room
   unfolding rearrange_number
   judged h =

@@ -1,11 +1,11 @@
 -- One pass over cells: how often each level was met, how a level rules an arrangement out, and what holds when all cells were met. Assumes nothing.
-use mathlib.Core.Path.{◌≡◌, ap, sym, ◌∙◌}
+use mathlib.Core.Path.{◌≡◌, refl, ap, sym, ◌∙◌}
 use mathlib.Core.Bool.{true, false}
 use mathlib.Core.List.{List, [], ◌∷◌, ◌++◌}
 use Prim.Native.Nat.{ℕ, suc, ◌+◌, ◌*◌, ◌≤◌, ◌<◌}
 use native.Mathlib.Numerals.{add-one}
 use native.Mathlib.Omega.{arith}
-use lib.ListN.{length, get_or, take, drop, set, length-set}
+use lib.ListN.{length, get_or, take, drop, set, replicate, length-set, get_or-replicate}
 use lib.Seq.{take-suc, take_all, get_or-set_same, get_or-set_other, split_at}
 use Rattle.theory.specs.Lists.{delta, count}
 use Rattle.theory.proofs.Cases.{by_test, by_name}
@@ -20,6 +20,15 @@ pub record Tally (q z : ℕ) (cells met : List ℕ) (i : ℕ) : Type 0 where
   pub levels : (j : ℕ) → j < i → (1 ≤ get_or cells j 0) × (get_or cells j 0 ≤ q)
   pub each : (v : ℕ) → v ≤ 16 → get_or met v 0 ≡ count v (take i cells)
   pub few : (v : ℕ) → v ≤ 16 → get_or met v 0 ≤ z
+
+pub tally_none : (q z : ℕ) (cells : List ℕ) → Tally q z cells (replicate 17 0) 0
+tally_none q z cells = record {
+  slots = refl;
+  within = omega arith;
+  levels = λ j l. absurd (omega arith);
+  each = λ v h. get_or-replicate 17 v 0 0 (omega arith);
+  few = λ v h. omega (arith, get_or-replicate {A = ℕ} 17 v 0 0 (omega arith));
+}
 
 module _ (q z : ℕ) (cells : List ℕ) (long : length cells ≡ q * z) where
   -- what rules an arrangement out

@@ -1,34 +1,33 @@
--- A cell put in among the first of a row. Assumes nothing.
+-- A cell put in among the first of a row: each cell that moves down leaves less to do, and the end is one write. Assumes nothing.
 use mathlib.Core.Path.{◌≡◌, sym, ap, ◌∙◌}
-use mathlib.Core.List.{List, ◌∷◌, ◌++◌, append_assoc}
-use Prim.Native.Nat.{ℕ, suc, ◌+◌, ◌-◌, ◌≤◌, ◌<◌}
+use mathlib.Core.List.{List, [], ◌∷◌, ◌++◌, append_assoc}
+use Prim.Native.Nat.{ℕ, zero, suc, ◌+◌, ◌-◌, ◌≤◌, ◌<◌}
 use native.Mathlib.Omega.{arith}
 use native.Mathlib.Numerals.{add-one}
-use lib.ListN.{length, take, drop, set}
-use Rattle.std.specs.List.{copy_within}
-use Rattle.std.proofs.lemmas.List.{drop-take, length-append}
-use lib.Seq.{take-take, length-take-le, take-append-le, take_at, drop_at, paste, drop-drop}
-use lib.Seq.{set_split}
+use lib.ListN.{length, get_or, take, drop, set, drop_of_length-le, length-set}
+use lib.Seq.{length-take-le, take-suc, drop-cons, append_snoc, take-append-le, drop-append-le, take_at, drop_at, drop-drop}
+use lib.Seq.{set_split, get_or-set_same, take-set-le, drop-set-lt}
 use Rattle.permutation.specs.Insert.{put_in}
 
--- those from index `at` on are copied one place down, and c is written over the first of them
-pub put_down : (xs : List ℕ) (m at c : ℕ) → at ≤ m → m < length xs → set (copy_within xs at m (at + 1)) at c ≡ put_in m at c xs
-put_down xs m at c low room =
-    let rest : List ℕ = take (m - at) (drop at xs) in
-    let past : List ℕ = rest ++ drop (suc at + (m - at)) xs in
-    let place : at + (m - at) ≡ m = omega arith in
-    let seam : suc at + (m - at) ≡ m + 1 = omega arith in
-    let head : length (take (suc at) xs) ≡ suc at = length-take-le (suc at) xs (omega arith) in
-    let long : at < length (take (suc at) xs ++ past) = omega (arith, length-append (take (suc at) xs) past) in
-    let before : take at (take (suc at) xs ++ past) ≡ take at xs = take-append-le at (take (suc at) xs) past (omega arith) ∙ take-take at (suc at) xs (omega arith) in
-    let after : drop (suc at) (take (suc at) xs ++ past) ≡ past = drop_at (take (suc at) xs) past (suc at) head in
-    let moved : drop at (take m xs) ≡ rest = ap (λ (k : ℕ). drop at (take k xs)) (sym place) ∙ drop-take at (m - at) xs in
-    let end : take at xs ++ c ∷ past ≡ put_in m at c xs =
-    rw moved (ap (λ (k : ℕ). take at xs ++ c ∷ (rest ++ drop k xs)) seam) in
-    let whole : set (take (suc at) xs ++ past) at c ≡ put_in m at c xs = set_split (take (suc at) xs ++ past) at c long ∙ rw (before, after) end in
-    ap (λ (k : ℕ). set (paste xs k (drop at xs) (m - at)) at c) (add-one at)
-    ∙ ap (λ (l : List ℕ). set l at c) (append_assoc (take (suc at) xs) rest (drop (suc at + (m - at)) xs))
-    ∙ whole
+-- the cell at index i - 1 moves down one
+pub put_shift : (xs : List ℕ) (i at c : ℕ) → at < i → i < length xs → put_in (i - 1) at c (set xs i (get_or xs (i - 1) 0)) ≡ put_in i at c xs
+put_shift xs zero at c lt h = absurd (omega arith)
+put_shift xs (suc k) at c lt h =
+    let x = get_or xs k 0 in
+    let q : suc k - 1 ≡ k = omega arith in
+    let low : at ≤ length (take k xs) = omega (arith, length-take-le k xs (omega arith)) in
+    let in_it : suc k < length (set xs (suc k) x) = omega (arith, length-set xs (suc k) x) in
+    let moved : drop (suc k) (set xs (suc k) x) ≡ x ∷ drop (suc (suc k)) xs =
+    drop-cons (set xs (suc k) x) (suc k) 0 in_it ∙ rw (get_or-set_same xs (suc k) x 0 h, drop-set-lt (suc (suc k)) xs (suc k) x (omega arith)) in
+    let held : drop at (take (suc k) xs) ≡ drop at (take k xs) ++ x ∷ [] =
+    ap (drop at) (take-suc xs k 0 (omega arith)) ∙ drop-append-le at (take k xs) (x ∷ []) low in
+    rw (q, add-one k, take-set-le at xs (suc k) x (omega arith), take-set-le k xs (suc k) x (omega arith), moved, held, add-one (suc k), append_snoc)
+
+-- no cell is left to move
+pub put_end : (xs : List ℕ) (i at c : ℕ) → i ≡ at → i < length xs → set xs i c ≡ put_in i at c xs
+put_end xs i at c e h =
+    let none : drop i (take i xs) ≡ [] = drop_of_length-le (take i xs) {i = i} (omega (arith, length-take-le i xs (omega arith))) in
+    set_split xs i c h ∙ rw (← e, none, add-one i)
 
 -- where the first m cells are q
 pub put_front : (q xs : List ℕ) (m j c : ℕ) → length q ≡ m → j ≤ m → put_in m j c (q ++ drop m xs) ≡ (take j q ++ c ∷ drop j q) ++ drop (suc m) xs

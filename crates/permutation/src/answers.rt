@@ -15,7 +15,7 @@ pub struct Permutation {
 }
 
 impl Permutation {
-    // The names in its first n places. It asks that n is within the row.
+    // The names in its first n places. For other crates too: it asks that n is within the row.
     pub fn names(&self) -> &[u8]
         requires { self.now.n ≤ 20 }
         ensures { result.now ≡ list_of self.now }

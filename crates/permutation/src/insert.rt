@@ -7,6 +7,9 @@ pub fn put_in(cells: &mut [u8; 20], m: usize, at: usize, c: u8)
     requires { (m < 20) × (at ≤ m) }
     ensures { cells.new ≡ put_in m at c cells.old }
 {
-    cells.copy_within(at..m, at + 1);
+    // not by `copy_within`, whose call costs more than the few cells that move
+    for i in (at..m).rev() {
+        cells[i + 1] = cells[i];
+    }
     cells[at] = c;
 }

@@ -1,5 +1,5 @@
 // Input up to its end or to a buffer's length.
-ghost use Rattle.std.specs.Prelude.{MatchResult};
+ghost use Rattle.std.specs.Prelude.{◌≡◌, IfErr, IfOk, MatchResult};
 ghost use Rattle.io.specs.Counts.{IsPrefixLen};
 
 use std::io::{Error, Read};
@@ -25,6 +25,20 @@ pub fn read_input(reader: &mut impl Read, buf: &mut [u8]) -> Result<usize, Faile
         }
     }
     Ok(length)
+}
+
+// For a caller that takes no bytes of a failed read.
+pub fn read_whole(reader: &mut impl Read, buf: &mut [u8]) -> Result<usize, Failed>
+    ensures counts { IfOk result (λ n. IsPrefixLen n buf.new) }
+    ensures failed_is_none { IfErr result (λ failed. failed.length ≡ 0) }
+{
+    match read_input(reader, buf) {
+        Ok(length) => Ok(length),
+        Err(failed) => Err(Failed {
+            error: failed.error,
+            length: 0,
+        }),
+    }
 }
 
 // A failed read counts as the end.

@@ -30,6 +30,10 @@ table_within {table} e n =
     by_le n 20 (λ l. table_at e n l ∙ sym (within_is n l))
     (λ l. rw (lt-leb n 20 l) (get_or_past table n 0 (omega (arith, ap length e))))
 
+-- a number below what is within the table tells that n is
+pub within_few : (n v : ℕ) → v < factorial_within n → n ≤ 20
+within_few n v h = by_le n 20 (λ l. l) (λ l. absurd (omega (arith, rw (lt-leb n 20 l) at h)))
+
 -- 20! is the largest
 pub factorial_bounded : (n : ℕ) → n ≤ 20 → factorial n ≤ 2432902008176640000
 factorial_bounded n h = omega (arith, factorial_grows n 20 h)

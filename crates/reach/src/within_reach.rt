@@ -3,7 +3,8 @@ ghost use Rattle.std.specs.Prelude.{◌≡◌, length};
 ghost use Rattle.reach.specs.Answers.{as_reached, reach_answer, reach_list, ReachOf};
 
 use super::list::list_within;
-use charge::read::read;
+use charge::judge::read_number;
+use charge::sort::sort_cells;
 use permutation::reasons::Refusal;
 use ranking::factorials::falling_factorial;
 
@@ -13,7 +14,7 @@ pub fn within_reach(levels: &[u16], r: usize, list: &mut [u8]) -> Result<usize, 
     ensures list_left { list.new ≡ reach_list levels.now r list.old }
     ensures reaching { ReachOf levels.now r (as_reached result) list.new }
 {
-    let present = read(levels)?;
+    read_number(levels)?;
     let n = levels.len();
     if n <= r {
         return Err(Refusal::Value);
@@ -26,6 +27,9 @@ pub fn within_reach(levels: &[u16], r: usize, list: &mut [u8]) -> Result<usize, 
     if list.len() < permutations * n {
         return Err(Refusal::Fit);
     }
-    list_within(list, &present.cells, n, r);
+    // sorted past the last test, so that a refusal costs no sort
+    let mut cells = [0; 20];
+    sort_cells(levels, &mut cells);
+    list_within(list, &cells, n, r);
     Ok(permutations)
 }

@@ -12,7 +12,7 @@ ghost use Rattle.reader.specs.Rows.{RowRead, filled};
 use permutation::reasons::Refusal;
 use sheet::commands::read_command;
 use sheet::groups::read_group;
-use sheet::held::{Entry, Group, Groups, Sheet, no_entries, no_groups, old_zeros};
+use sheet::held::{Entry, Group, Groups, Sheet, no_sheet};
 use sheet::little::little;
 use sheet::zeros::read_zeros;
 
@@ -62,8 +62,8 @@ fn read_entries(
     Ok(at)
 }
 
-// A blank sheet is filled where it stands.
-fn read_into(bytes: &[u8], sheet: &mut Sheet) -> Result<(), Refusal>
+// A blank sheet is filled where it stands. For other crates too: it asks for a blank one.
+pub fn read_into(bytes: &[u8], sheet: &mut Sheet) -> Result<(), Refusal>
     requires { sheet.old ≡ held_of no_contents }
     ensures { as_sheet (filled result sheet.new) ≡ sheet_answer (meaning.sheet bytes.now) }
 {
@@ -95,15 +95,7 @@ fn read_into(bytes: &[u8], sheet: &mut Sheet) -> Result<(), Refusal>
 pub fn read_sheet(bytes: &[u8]) -> Result<Sheet, Refusal>
     ensures { as_sheet result ≡ sheet_answer (meaning.sheet bytes.now) }
 {
-    let mut sheet = Sheet {
-        groups: Groups {
-            count: 0,
-            list: no_groups(),
-        },
-        zeros: old_zeros(),
-        count: 0,
-        entries: no_entries(),
-    };
+    let mut sheet = no_sheet();
     read_into(bytes, &mut sheet)?;
     Ok(sheet)
 }

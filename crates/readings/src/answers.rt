@@ -1,4 +1,6 @@
 // What the jobs answer, as it is told: a colon, the job's number, 0 where it is done, and what the job gives.
+ghost use Rattle.std.specs.Prelude.{◌≤◌, length};
+
 use super::text::{Spaced, Text};
 use charge::answers::Pushes;
 use permutation::answers::{Permutation, Permuted, Placed};
@@ -23,9 +25,11 @@ pub fn tell_number<T: Display + Default + Drop>(
 }
 
 // A row without the zeros at its end; place 1 always stands.
-fn filled(cells: &[u8; 20]) -> Spaced<'_, u8> {
+fn filled(cells: &[u8; 20]) -> &[u8]
+    ensures { length result.now ≤ 20 }
+{
     let last = cells.iter().rposition(|cell| *cell != 0).unwrap_or(0);
-    Spaced(&cells[..=last])
+    &cells[..=last]
 }
 
 // n, a bar and the row.
@@ -34,7 +38,7 @@ pub struct Record<'a>(pub &'a Permutation);
 
 impl Display for Record<'_> {
     fn fmt<W: Write>(&self, f: &mut fmt::Formatter<W>) -> fmt::Result {
-        write!(f, "{} |{}", self.0.n, filled(&self.0.cells))
+        write!(f, "{} |{}", self.0.n, Spaced(filled(&self.0.cells)))
     }
 }
 
@@ -73,7 +77,7 @@ impl Answer for Prefixed {
             " : {} {} |{}",
             self.number,
             self.length,
-            filled(&self.cells)
+            Spaced(filled(&self.cells))
         )
     }
 }

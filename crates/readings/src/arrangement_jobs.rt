@@ -1,4 +1,6 @@
 // One arrangement changed into another: what the job answers, and the lent list as it left it.
+ghost use Rattle.std.specs.Prelude.{◌≤◌, length};
+
 use super::answers::tell_number;
 use super::numbers::Numbers;
 use super::text::Text;
@@ -9,7 +11,9 @@ use std::fmt::{Error, Result};
 const MOST: usize = 128;
 
 // The levels of a word, from the row's start. A level is a letter: A is 1, and @ is 0. A byte below that is no level.
-fn levels_in<'a>(word: &[u8], row: &'a mut [u8; MOST]) -> &'a [u8] {
+fn levels_in<'a>(word: &[u8], row: &'a mut [u8; MOST]) -> &'a [u8]
+    ensures { length result.now ≤ 128 }
+{
     let levels = word.iter().filter_map(|letter| letter.checked_sub(b'@'));
     for (cell, level) in row.iter_mut().zip(levels) {
         *cell = level;

@@ -48,6 +48,9 @@ module _ {L ks numbers₀ : List ℕ} {i : ℕ} {levels numbers : List ℕ} {pus
   unfolding after_calls
   levels_are = v.in_turn.left
 
+  pub levels_length : length levels ≡ length L
+  levels_length = ap length levels_are ∙ after_length (take i ks) L
+
   module _ (more : i < length ks) where
     abbrev k : ℕ
     k = get_or ks i 0

@@ -39,13 +39,17 @@ unfolding little
 little_padded [] n = little_zeros n
 little_padded (x ∷ xs) n = rw (little_padded xs n)
 
+-- m bytes so far, and a byte b
+pub little_range_next : (m v b : ℕ) → v < 256 ^ m → b < 256 → v * 256 + b < 256 ^ suc m
+little_range_next m v b hv hb = rw pow-suc (omega arith)
+
 little_range : (xs : List ℕ) → ((i : ℕ) → i < length xs → get_or xs i 0 < 256) → little xs < 256 ^ length xs
 unfolding little
 little_range [] small = lit< tt
 little_range (x ∷ xs) small =
     let rest = little_range xs (λ i h. small (suc i) (omega arith)) in
     let first = small 0 (omega arith) in
-    rw pow-suc (omega arith)
+    omega (arith, little_range_next (length xs) (little xs) x rest first)
 
 -- k bytes from a place on, copied over the first of eight zeros
 module _ (at k : ℕ) (s : List ℕ) (few : k ≤ 8) (there : at + k ≤ length s) where

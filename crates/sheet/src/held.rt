@@ -3,7 +3,7 @@
 // each n, and in the target of a command that has none, and the old zero past those of the groups; in any other whatever does.
 ghost use Rattle.std.specs.Prelude.{◌≡◌, replicate};
 ghost use Rattle.ranking.specs.declared.zero.Zero.TheVariants.{Old};
-ghost use Rattle.sheet.specs.Held.{no_group, no_entry};
+ghost use Rattle.sheet.specs.Held.{no_group, no_entry, no_contents, held_of};
 
 use permutation::answers::Permutation;
 use ranking::zero::Zero;
@@ -93,4 +93,19 @@ pub fn no_entries() -> [Entry; 1000]
     ensures { result ≡ replicate 1000 no_entry }
 {
     [no_entry(); 1000]
+}
+
+// A blank sheet, to be filled where it stands. For other crates too.
+pub fn no_sheet() -> Sheet
+    ensures { result ≡ held_of no_contents }
+{
+    Sheet {
+        groups: Groups {
+            count: 0,
+            list: no_groups(),
+        },
+        zeros: old_zeros(),
+        count: 0,
+        entries: no_entries(),
+    }
 }

@@ -1,5 +1,5 @@
 -- The numbers of the jobs with weights, by the tests that the code makes. Assumes nothing.
-use mathlib.Core.Path.{◌≡◌}
+use mathlib.Core.Path.{◌≡◌, sym}
 use mathlib.Core.Bool.{true, cond, ◌&&◌, and-false, and-eq-true_iff}
 use mathlib.Core.List.{List}
 use Prim.Native.Nat.{ℕ, ◌≤◌, ◌<◌}
@@ -52,6 +52,9 @@ fitting {n} {m} {ws} h =
     (λ ne t. absurd (omega (arith, no_fit n (length ws) m few many ne))))
     (λ l. absurd (omega (arith, too_many n (length ws) m l))))
     (λ l. absurd (omega (arith, too_few n (length ws) m l)))
+
+pub fitting_done : {n m : ℕ} {ws : List ℕ} → Fitting n ws m → misfit n (length ws) m ≡ done
+fitting_done {n} {m} {ws} v = sym (all_fit n (length ws) m v.few v.many v.entries)
 
 -- it gives no other number
 pub misfit_only : (n entries m : ℕ) {k : ℕ} → (k ≡ size → ⊥) → (k ≡ fit → ⊥) → misfit n entries m ≡ k → k ≡ 0
@@ -114,6 +117,10 @@ module _ (n m : ℕ) where
 -- nor do these
 pub range_only : (n m : ℕ) {k : ℕ} → (k ≡ value → ⊥) → range_of n m ≡ k → k ≡ 0
 range_only n m a h = test_only (in_range n m) a h
+
+pub symbol_only : (n m s : ℕ) {k : ℕ} → (k ≡ value → ⊥) → symbol_range n m s ≡ k → k ≡ 0
+unfolding symbol_range
+symbol_only n m s a h = or_else_only (range_of n m) (cond (ltb s m) done value) (range_only n m a) (test_only (ltb s m) a) h
 
 -- there is a code for the weights
 pub has_code : {n m : ℕ} {ws : List ℕ} → Fitting n ws m → range_of n m ≡ done → HasCode n ws

@@ -73,9 +73,9 @@ fn values_of(groups: &Groups, zeros: &[Zero; 64]) -> [u64; 64]
 }
 
 // The sheet is one that was read without fault.
-pub fn work(sheet: Sheet) -> Outcome
-    requires { SheetHeld sheet }
-    ensures { result ≡ outcome_of (contents_of sheet) }
+pub fn work(sheet: &Sheet) -> Outcome
+    requires { SheetHeld sheet.now }
+    ensures { result ≡ outcome_of (contents_of sheet.now) }
 {
     let mut answers = [Pushes {
         number: 0,

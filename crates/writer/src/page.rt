@@ -51,7 +51,9 @@ pub fn put_sheet(out: &mut [u8], sheet: Sheet) -> Result<usize, Refusal>
     requires { longest_sheet ≤ length out.old }
     ensures { Lays (sheet_number sheet) longest_sheet out.old 0 out.new (as_laid result) (sheet_bytes sheet) }
 {
-    let end = put_groups(out, sheet.groups)?;
+    // Copied beside the sheet: without that the compiled job blanks a part of the sheet first, also where it is refused.
+    let groups = sheet.groups;
+    let end = put_groups(out, groups)?;
     let rest = put_commands(out, end, sheet)?;
-    Ok(put_zeros(out, rest, sheet.zeros, sheet.groups.count))
+    Ok(put_zeros(out, rest, sheet.zeros, groups.count))
 }

@@ -26,7 +26,7 @@ below : (c : After-from-g) → (c.from-g.result < c.loop-i.groups.count) × (c.f
 below c =
     let held = c.requires in
     let so = c.loop-i.invariant in
-    let more : c.loop-i.i < c.args.sheet.count = omega (arith, sheet_count held) in
+    let more : c.loop-i.i < c.args.sheet.now.count = omega (arith, sheet_count held) in
     let is = next_is held so.0 more none in
     let b = index_below held so.0 more _ (rw is at c.from-g.ensures) in
     (b.0, omega (arith, b.0, b.1))
@@ -45,7 +45,7 @@ pub loop-i-preserved : goal.loop-i-preserved
 loop-i-preserved c =
     let held = c.requires in
     let so = c.loop-i.invariant in
-    let more : c.loop-i.i < c.args.sheet.count = omega (arith, sheet_count held) in
+    let more : c.loop-i.i < c.args.sheet.now.count = omega (arith, sheet_count held) in
     let is = next_is held so.0 more none in
     let g = rw is at c.from-g.ensures in (
       step held so.0 more _ g _ (c.from.ensures ∙ rw is at c.act_group.ensures.answer) (rw is at c.act_group.ensures.group_left),
